@@ -1,0 +1,19 @@
+//! What every crate of the compiler speaks of: names, places, refusals, and the files and streams outside.
+#![tactic(auto)]
+
+mod names;
+mod outside;
+mod refusals;
+
+pub use names::{Name, Words};
+pub use outside::{Files, Load, Sink, Wrote};
+pub use refusals::{Fail, NoMemory, Place, Refusal, Rule};
+
+/// A value that the host hands over or is handed: one reply item or one argument.
+pub type Item = u64;
+
+/// The greatest width of a value, in bits.
+pub const MAX_WIDTH: u32 = 64;
+
+/// The greatest length of a file that is loaded, in bytes.
+pub const MAX_FILE: usize = 268_435_456;
