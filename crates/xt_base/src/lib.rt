@@ -1,10 +1,14 @@
 //! What every crate of the compiler speaks of: names, places, refusals, and the files and streams outside.
 #![tactic(auto)]
 
+mod host;
+mod memory;
 mod names;
 mod outside;
 mod refusals;
 
+pub use host::{HostFiles, HostSink, Stream};
+pub use memory::{MemFiles, MemSink};
 pub use names::{Name, Words};
 pub use outside::{Files, Load, Sink, Wrote};
 pub use refusals::{Fail, NoMemory, Place, Refusal, Rule};
@@ -17,3 +21,6 @@ pub const MAX_WIDTH: u32 = 64;
 
 /// The greatest length of a file that is loaded, in bytes.
 pub const MAX_FILE: usize = 268_435_456;
+
+#[cfg(test)]
+mod tests;
