@@ -6,12 +6,14 @@ mod memory;
 mod names;
 mod outside;
 mod refusals;
+mod reserved;
 
 pub use host::{HostFiles, HostSink, Stream};
 pub use memory::{MemFiles, MemSink};
 pub use names::{Name, Words};
 pub use outside::{Files, Load, Sink, Wrote};
 pub use refusals::{Fail, NoMemory, Place, Refusal, Rule};
+pub use reserved::is_reserved;
 
 /// A value that the host hands over or is handed: one reply item or one argument.
 pub type Item = u64;
