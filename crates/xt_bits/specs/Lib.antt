@@ -1,0 +1,4 @@
+pub mod Word
+pub mod Operators
+pub mod Trace
+pub mod Stimulus
