@@ -1,0 +1,68 @@
+-- Laws that say the definitions again in the standard's words.
+use Rattle.std.specs.Prelude.{◌≡◌, ◌⊎◌, ℕ, zero, suc, Bool, true, false, not, ◌&&◌, if◌then◌else◌, List, [], ◌∷◌, ◌++◌, map, Some, is_some}
+use Rattle.std.specs.List.{list_any}
+use Rattle.el_design.specs.Plain.{Statement, Null, Skip, Seq, Block, Arm, Forever, Flat}
+use Rattle.el_design.specs.Value.{Scene}
+use Rattle.el_design.specs.Stack.{Work, Do, quiet_step, IsStill, settle, is_waiting, is_ended}
+use Rattle.el_design.specs.Act.{Process, act}
+use Rattle.el_design.specs.Queue.{Config, has_value, is_stuck, can_run, Event, Run, Follow, Update, ready}
+
+-- so many steps that are no events lead from a stack to another
+abbrev pub QuietSteps : ℕ → List Work → List Work → Type 0
+QuietSteps zero k end = k ≡ end
+QuietSteps (suc n) k end = (mid : List Work) × (quiet_step k ≡ Some mid) × QuietSteps n mid end
+
+-- a statement that is dropped by such steps alone
+abbrev pub is_nothing : Statement → Bool
+is_nothing Null = true
+is_nothing Skip = true
+is_nothing (Seq a b) = is_nothing a && is_nothing b
+is_nothing (Block at mark body) = is_nothing body
+is_nothing s = false
+
+-- on top is a `forever` around such a statement, whose steps never end
+abbrev pub is_spinning : List Work → Bool
+is_spinning (Do (Forever at body) ∷ k) = is_nothing body
+is_spinning k = false
+
+-- Steps that are no events lead from each stack to the one that `settle` gives; it is still, unless those steps never end; and no such step changes what `settle` gives.
+abbrev pub StacksSettle : List Work → Type 0
+StacksSettle k =
+    ((n : ℕ) × QuietSteps n k (settle k))
+    × (IsStill (settle k) ⊎ (is_spinning (settle k) ≡ true))
+    × ((next : List Work) → quiet_step k ≡ Some next → settle next ≡ settle k)
+
+-- arms stand inside a `case` alone
+abbrev pub has_arm : List Work → Bool
+has_arm (Do (Arm on labels body others) ∷ k) = true
+has_arm k = false
+
+-- A process has an event exactly where it is neither waiting, nor ended, nor at a call for which no reply is left, in each scene.
+abbrev pub ProcessesRun : Flat → Scene → Process → Type 0
+ProcessesRun d s p =
+    (is_some (act d s p) ≡ can_run p)
+    × (IsStill p.stack → has_arm p.stack ≡ false → can_run p ≡ (not (is_waiting p.stack) && not (is_ended p.stack) && not (is_stuck p)))
+
+-- the places, from n on, at which the test holds
+abbrev pub places_from : {X : Type 0} → ℕ → (ℕ → X → Bool) → List X → List ℕ
+places_from n test [] = []
+places_from n test (x ∷ xs) = if test n x then n ∷ places_from (suc n) test xs else places_from (suc n) test xs
+
+abbrev pub has_updates : Process → Bool
+has_updates p = elim p.updates [ [] ↦ false | ws ∷ more ↦ true ]
+
+abbrev pub is_empty : {X : Type 0} → List X → Bool
+is_empty [] = true
+is_empty (x ∷ xs) = false
+
+-- Each process, by number, that has an event; each net, by number, whose value differs from its expression's; and where there is none of these,
+-- and no process is at a call for which no reply is left, the oldest update of each process, by number, that has one.
+abbrev pub listed : Flat → Config → List Event
+listed d c =
+    let runs = map Run (places_from 0 (λ i p. can_run p) c.procs) in
+    let follows = map Follow (places_from 0 (λ n net. not (has_value d c n net)) d.nets) in
+    let updates = map Update (places_from 0 (λ i p. has_updates p) c.procs) in
+    runs ++ follows ++ (if is_empty runs && is_empty follows && not (list_any is_stuck c.procs) then updates else [])
+
+abbrev pub EventsAreListed : Flat → Config → Type 0
+EventsAreListed d c = ready d c ≡ listed d c

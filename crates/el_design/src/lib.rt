@@ -1,0 +1,15 @@
+//! The flat design: one list of variables, nets and processes with typed expressions, and what it means.
+#![tactic(auto)]
+
+mod designs;
+mod expressions;
+mod laws;
+mod orders;
+pub mod simulator;
+mod statements;
+
+pub use designs::{Design, Func, Import, Net, Pin, Port, Proc, Source, Task, Var};
+pub use expressions::{BinOp, Kind, Pick, TExpr, Target, UnOp};
+pub use laws::{events_are_listed, processes_run, stacks_settle};
+pub use orders::{Checked, NetOrder};
+pub use statements::{Arm, Stmt};
