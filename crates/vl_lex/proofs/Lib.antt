@@ -1,0 +1,9 @@
+pub mod Runs
+pub mod Strings
+pub mod Numbers
+pub mod Marks
+pub mod Families
+pub mod Readings
+pub mod Unique
+pub mod Outcomes
+pub mod Total

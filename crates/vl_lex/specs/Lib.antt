@@ -1,0 +1,6 @@
+pub mod Bytes
+pub mod Fronts
+pub mod Operators
+pub mod Refusals
+pub mod Spelling
+pub mod Tokens

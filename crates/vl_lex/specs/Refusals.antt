@@ -1,0 +1,15 @@
+-- How a text without tokens is refused. It is this project's own.
+use Rattle.std.specs.Prelude.{◌≡◌, ℕ}
+use Rattle.xt_base.specs.declared.refusals.Refusal.{Refusal}
+use Rattle.vl_pre.specs.Text.{Expanded, place_of}
+use Rattle.vl_lex.specs.Tokens.{FailsAt}
+
+-- rule 14, at the place of a byte
+abbrev pub no_token : Expanded → ℕ → Refusal
+no_token text at = record { rule = record { 0 = 14 }; place = place_of text at }
+
+-- the refusal of the first byte at which no token begins
+pub record IsRefused (text : Expanded) (refusal : Refusal) : Type 0 where
+  pub at : ℕ
+  pub fails : FailsAt text.bytes at
+  pub is : refusal ≡ no_token text at

@@ -1,0 +1,12 @@
+pub mod RunLemmas
+pub mod PlaceLemmas
+pub mod PushLemmas
+pub mod PieceLemmas
+pub mod CleanLemmas
+pub mod OperandLemmas
+pub mod LineLemmas
+pub mod TextLemmas
+pub mod NameLemmas
+pub mod GivesLemmas
+pub mod DefineLemmas
+pub mod TableLemmas
