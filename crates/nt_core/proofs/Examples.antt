@@ -1,0 +1,87 @@
+-- The definitions at small designs: what they compute to stands here.
+use Rattle.std.proofs.Common.{◌≡◌, ℕ, List, [], ◌∷◌, ◌++◌, refl, Option, Some, None}
+use Rattle.std.specs.Prelude.{codes}
+use Rattle.std.specs.Fmt.{digits}
+use Rattle.xt_bits.specs.Word as bits
+use Rattle.xt_bits.specs.Word.{word, number_of, bit_of}
+use Rattle.xt_bits.specs.Operators.{turned_bit}
+use Rattle.nt_core.specs.declared.netlist.Wire.{Wire}
+use Rattle.nt_core.specs.declared.netlist.Node.{Node}
+use Rattle.nt_core.specs.declared.netlist.Op.{Op}
+use Rattle.nt_core.specs.declared.netlist.Op.TheVariants.{Pin, Ack, Ret, Reg, Const, Word, Not, And, Or, Xor, Add, Sub, Mul, Div, Rem, SDiv, SRem, Shl, Shr, Sar, Eq, Lt, SLt, Parity, Choice, Concat, Slice, Copies}
+use Rattle.nt_core.specs.Parts.{Parts}
+use Rattle.nt_core.specs.Text.{text_of}
+use Rattle.xt_bits.specs.Stimulus.{Stimulus}
+use Rattle.xt_bits.specs.Trace.{Trace, Seen, Call, Rested, Starved, Stalled, Called, Unknown}
+use Rattle.nt_core.specs.DesignRun.{trace_within, run_start}
+
+abbrev node : ℕ → Op → Node
+node w op = record { width = w; op = op }
+
+abbrev wire : List ℕ → ℕ → Wire
+wire name w = record { name = name; width = w }
+
+-- a design that turns each bit of its input over; `edge` is the value on `xtc_edge`
+abbrev inverter : ℕ → Parts
+inverter edge = record {
+  version = 1;
+  processes = 0;
+  functions = [];
+  inputs = wire (codes "a") 8 ∷ [];
+  outputs = wire (codes "y") 8 ∷ [];
+  hosts = [];
+  registers = [];
+  memories = [];
+  nodes = node 8 (Pin 0 8) ∷ node 8 (Not 0) ∷ node 1 (Const (word 1 edge)) ∷ [];
+  drives = 2 ∷ 1 ∷ [];
+  nexts = [];
+  writes = [];
+}
+
+inverter_text : text_of (inverter 1) ≡ codes "// xtc design 1\n// processes 0\nmodule xtc_design (\n  input wire xtc_clk,\n  input wire [7:0] a,\n  output wire xtc_edge,\n  output wire [7:0] y\n);\n  wire [7:0] xtc_n0 = a;\n  wire [7:0] xtc_n1 = ~xtc_n0;\n  wire xtc_n2 = 1'h1;\n  assign xtc_edge = xtc_n2;\n  assign y = xtc_n1;\n  always @(posedge xtc_clk) begin\n  end\nendmodule\n"
+unfolding digits
+inverter_text = refl
+
+abbrev two_rows : Stimulus
+two_rows = record { rows = (word 8 15 ∷ []) ∷ (word 8 240 ∷ []) ∷ []; replies = [] }
+
+inverter_trace : trace_within 1 (inverter 1) two_rows.rows (run_start (inverter 1) two_rows)
+    ≡ Some (record { calls = []; ending = Rested 1 (word 8 240 ∷ []) } ∷ record { calls = []; ending = Rested 1 (word 8 15 ∷ []) } ∷ [])
+unfolding number_of turned_bit bit_of
+inverter_trace = refl
+
+-- without an edge the first tick is made, and then the design waits for nothing
+stalled_trace : trace_within 9 (inverter 0) two_rows.rows (run_start (inverter 0) two_rows) ≡ Some (record { calls = []; ending = Stalled } ∷ [])
+stalled_trace = refl
+
+-- a design that asks function 0 again and again, with its register as the argument, and keeps the reply; each reply ends an edge
+abbrev asker : Parts
+asker = record {
+  version = 1;
+  processes = 1;
+  functions = record { name = codes "f"; ins = 8 ∷ []; rets = 8 ∷ [] } ∷ [];
+  inputs = [];
+  outputs = wire (codes "y") 8 ∷ [];
+  hosts = record { process = 0; rets = 8 ∷ []; args = 8 ∷ [] } ∷ [];
+  registers = word 8 5 ∷ [];
+  memories = [];
+  nodes = node 8 (Reg 0 8) ∷ node 1 (Ack 0) ∷ node 8 (Ret 0 0 8) ∷ node 8 (Choice 1 2 0) ∷ node 1 (Const (word 1 1)) ∷ node 8 (Const (word 8 0)) ∷ [];
+  drives = 1 ∷ 0 ∷ 4 ∷ 5 ∷ 0 ∷ [];
+  nexts = 3 ∷ [];
+  writes = [];
+}
+
+asker_text : text_of asker ≡ codes "// xtc design 1\n// processes 1\n// function f in 8 out 8\nmodule xtc_design (\n  input wire xtc_clk,\n  input wire xtc_p0_ack,\n  input wire [7:0] xtc_p0_ret0,\n  output wire xtc_edge,\n  output wire [7:0] y,\n  output wire xtc_p0_req,\n  output wire [7:0] xtc_p0_fn,\n  output wire [7:0] xtc_p0_arg0\n);\n  reg [7:0] xtc_r0 = 8'h05;\n  wire [7:0] xtc_n0 = xtc_r0;\n  wire xtc_n1 = xtc_p0_ack;\n  wire [7:0] xtc_n2 = xtc_p0_ret0;\n  wire [7:0] xtc_n3 = xtc_n1 ? xtc_n2 : xtc_n0;\n  wire xtc_n4 = 1'h1;\n  wire [7:0] xtc_n5 = 8'h00;\n  assign xtc_edge = xtc_n1;\n  assign y = xtc_n0;\n  assign xtc_p0_req = xtc_n4;\n  assign xtc_p0_fn = xtc_n5;\n  assign xtc_p0_arg0 = xtc_n0;\n  always @(posedge xtc_clk) begin\n    xtc_r0 <= xtc_n3;\n  end\nendmodule\n"
+unfolding digits
+asker_text = refl
+
+abbrev two_replies : Stimulus
+two_replies = record { rows = [] ∷ [] ∷ [] ∷ []; replies = (record { wait = 2; items = 7 ∷ [] } ∷ record { wait = 0; items = 9 ∷ [] } ∷ []) ∷ [] }
+
+abbrev asked : ℕ → List (List Call)
+asked n = (Called 0 (word 8 n ∷ []) ∷ []) ∷ []
+
+-- a reply that waits for two ticks takes three; the third request has no reply
+asker_trace : trace_within 4 asker two_replies.rows (run_start asker two_replies)
+    ≡ Some (record { calls = asked 5; ending = Rested 3 (word 8 7 ∷ []) } ∷ record { calls = asked 7; ending = Rested 1 (word 8 9 ∷ []) } ∷ record { calls = asked 9; ending = Starved } ∷ [])
+asker_trace = refl

@@ -1,0 +1,16 @@
+pub mod Conditions
+pub mod DesignRun
+pub mod Driver
+pub mod Fitting
+pub mod Forms
+pub mod FunctionLine
+pub mod Growth
+pub mod HostLine
+pub mod Names
+pub mod NodeValue
+pub mod Parts
+pub mod Ports
+pub mod Sources
+pub mod Text
+pub mod Tick
+pub mod View
