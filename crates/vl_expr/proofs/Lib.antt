@@ -1,0 +1,13 @@
+pub mod Results
+pub mod Stands
+pub mod Tokens
+pub mod Sound
+pub mod Follow
+pub mod Begins
+pub mod Comes
+pub mod Primaries
+pub mod Lists
+pub mod Layers
+pub mod Complete
+pub mod Fits
+pub mod Turns
