@@ -83,7 +83,6 @@ loose_below l o s = by_ten (l == 10) refl s.stops
     by_ten false e t = t
 
 module _ (ls : List Lexeme) where
-
   tail_ends : (n l from turns : ℕ) (p : Found Expr) → Stops (suc l) (slice_get ls p.end) → tail_of ls (reader_of ls n) n l from turns p ≡ Ok p
   tail_ends n l from zero p s = refl
   tail_ends n l from (suc turns) p s = rw (no_operator l (slice_get ls p.end) s) refl

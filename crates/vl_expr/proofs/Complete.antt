@@ -46,14 +46,14 @@ closes_paren : {o : Option Lexeme} → o ≡ Some lex.CloseParen → Closes o
 closes_paren h = record {
   stops = stops_at h (record { above = lit< tt });
   comma = not_at lex.CloseParen lex.Comma h refl;
-  brace = not_at lex.CloseParen lex.OpenBrace h refl
+  brace = not_at lex.CloseParen lex.OpenBrace h refl;
 }
 
 closes_brace : {o : Option Lexeme} → o ≡ Some lex.CloseBrace → Closes o
 closes_brace h = record {
   stops = stops_at h (record { above = lit< tt });
   comma = not_at lex.CloseBrace lex.Comma h refl;
-  brace = not_at lex.CloseBrace lex.OpenBrace h refl
+  brace = not_at lex.CloseBrace lex.OpenBrace h refl;
 }
 
 module _ (ls : List Lexeme) where
@@ -61,7 +61,7 @@ module _ (ls : List Lexeme) where
     pub level_comes : {n l i j : ℕ} {e : Expr} → IsLevel ls n l i j e → Loose l (slice_get ls j) → Claim ls n l i j e
     level_comes (IsLevel.choice a h b k c) s =
         choice_comes ls (level_comes a (loose_at 10 h (record { above = lit< tt }))) h
-          (level_comes b (loose_at 11 k (record { above = lit< tt }))) k (level_comes c s) s
+        (level_comes b (loose_at 11 k (record { above = lit< tt }))) k (level_comes c s) s
     level_comes (IsLevel.binary_op {l = l} {x = x} {op = op} a h o b) s =
         binary_comes ls (level_comes a (below_operator l x op h o s)) h o (level_comes b (loose l _ (loose_below l _ s))) s
     level_comes (IsLevel.tighter {l = l} a) s = tighter_comes ls (level_comes a (loose l _ (loose_below l _ s))) s

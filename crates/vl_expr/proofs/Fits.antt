@@ -29,16 +29,15 @@ same_depth : {X : Type 0} {n : ℕ} (p q : Found X) → p ≡ q → p.depth ≤ 
 same_depth {n = n} p q e h = subst (λ r. r.depth ≤ n) e h
 
 module _ (ls : List Lexeme) (below : Reader) (n : ℕ) (fits : Fits below n) where
-
   exprs_from_fit : (turns : ℕ) (all q : Found (List Expr)) → all.depth ≤ n → Reading.exprs_from ls below turns all ≡ Ok q → q.depth ≤ n
   exprs_from_fit zero all q h e = same_depth all q (ok_one e) h
   exprs_from_fit (suc turns) all q h e =
       elim (cond_ok (is_at ls all.end lex.Comma) _ _ q e) [
-        was_true t r ↦
-          let b = bind_ok _ _ q r in
-          let f = fits.level 11 (all.end + 1) b.val b.first in
-          exprs_from_fit turns (added all b.val) q (omega arith) b.rest
-      | was_false t r ↦ same_depth all q (ok_one r) h
+        | was_true t r ↦
+            let b = bind_ok _ _ q r in
+            let f = fits.level 11 (all.end + 1) b.val b.first in
+            exprs_from_fit turns (added all b.val) q (omega arith) b.rest
+        | was_false t r ↦ same_depth all q (ok_one r) h
       ]
 
   pub exprs_fit : (at : ℕ) (q : Found (List Expr)) → Reading.exprs_of ls below at ≡ Ok q → q.depth ≤ n
@@ -53,8 +52,8 @@ module _ (ls : List Lexeme) (below : Reader) (n : ℕ) (fits : Fits below n) whe
   args_fit at q e =
       let t = past_ok ls at lex.OpenParen _ q e in
       elim (cond_ok (is_at ls (at + 1) lex.CloseParen) _ _ q t.rest) [
-        was_true c r ↦ same_depth _ q (ok_one r) (omega arith)
-      | was_false c r ↦ let b = bind_ok _ _ q r in closed_fits lex.CloseParen b.val q (exprs_fit (at + 1) b.val b.first) b.rest
+        | was_true c r ↦ same_depth _ q (ok_one r) (omega arith)
+        | was_false c r ↦ let b = bind_ok _ _ q r in closed_fits lex.CloseParen b.val q (exprs_fit (at + 1) b.val b.first) b.rest
       ]
 
   paren_fits : (at : ℕ) (p : Found Expr) → Reading.paren_of ls below at ≡ Ok p → p.depth ≤ n
@@ -82,18 +81,18 @@ module _ (ls : List Lexeme) (below : Reader) (n : ℕ) (fits : Fits below n) whe
   second_fits : (first : Found Select) (q : Found (List Select)) → first.depth ≤ n → Reading.second_of ls below first ≡ Ok q → q.depth ≤ n
   second_fits first q h e =
       elim (cond_ok (Reading.is_index first.tree && is_at ls first.end lex.OpenBracket) _ _ q e) [
-        was_true t r ↦
-          let b = bind_ok _ _ q r in
-          let f = fits.select first.end b.val b.first in
-          same_depth _ q (ok_one b.rest) (omega arith)
-      | was_false t r ↦ same_depth _ q (ok_one r) h
+        | was_true t r ↦
+            let b = bind_ok _ _ q r in
+            let f = fits.select first.end b.val b.first in
+            same_depth _ q (ok_one b.rest) (omega arith)
+        | was_false t r ↦ same_depth _ q (ok_one r) h
       ]
 
   pub selects_fit : (at : ℕ) (q : Found (List Select)) → Reading.selects_of ls below at ≡ Ok q → q.depth ≤ n
   selects_fit at q e =
       elim (cond_ok (is_at ls at lex.OpenBracket) _ _ q e) [
-        was_true t r ↦ let b = bind_ok _ _ q r in second_fits b.val q (fits.select at b.val b.first) b.rest
-      | was_false t r ↦ same_depth _ q (ok_one r) (omega arith)
+        | was_true t r ↦ let b = bind_ok _ _ q r in second_fits b.val q (fits.select at b.val b.first) b.rest
+        | was_false t r ↦ same_depth _ q (ok_one r) (omega arith)
       ]
 
   name_fits : (at : ℕ) (p : Found Expr) (call : Bool) → Reading.name_by ls below at call ≡ Ok p → p.depth ≤ suc n
@@ -122,8 +121,8 @@ module _ (ls : List Lexeme) (below : Reader) (n : ℕ) (fits : Fits below n) whe
       let b = bind_ok _ _ p e in
       let f = fits.level 11 (at + 1) b.val b.first in
       elim (cond_ok (is_at ls b.val.end lex.OpenBrace) _ _ p b.rest) [
-        was_true t r ↦ replicate_fits at b.val p f r
-      | was_false t r ↦ concat_fits at b.val p f r
+        | was_true t r ↦ replicate_fits at b.val p f r
+        | was_false t r ↦ concat_fits at b.val p f r
       ]
 
   decimal_fits : (at : ℕ) (b : Bool) → (Reading.decimal_by at b).depth ≤ suc n
@@ -149,16 +148,16 @@ module _ (ls : List Lexeme) (below : Reader) (n : ℕ) (fits : Fits below n) whe
   choice_fits : (from : ℕ) (test p : Found Expr) → test.depth ≤ suc n → Reading.choice_of ls below n from test ≡ Ok p → p.depth ≤ suc n
   choice_fits from test p h e =
       elim (cond_ok (is_at ls test.end lex.Question) _ _ p e) [
-        was_true t r ↦
-          let u = test_ok (nat_le test.depth n) _ test.end p r in
-          let b = bind_ok _ _ p u.rest in
-          let c = past_ok ls b.val.end lex.Colon _ p b.rest in
-          let d = bind_ok _ _ p c.rest in
-          let k = leb-true test.depth n u.holds in
-          let f = fits.level 11 (test.end + 1) b.val b.first in
-          let g = fits.level 11 (b.val.end + 1) d.val d.first in
-          same_depth _ p (ok_one d.rest) (omega arith)
-      | was_false t r ↦ same_depth _ p (ok_one r) h
+        | was_true t r ↦
+            let u = test_ok (nat_le test.depth n) _ test.end p r in
+            let b = bind_ok _ _ p u.rest in
+            let c = past_ok ls b.val.end lex.Colon _ p b.rest in
+            let d = bind_ok _ _ p c.rest in
+            let k = leb-true test.depth n u.holds in
+            let f = fits.level 11 (test.end + 1) b.val b.first in
+            let g = fits.level 11 (b.val.end + 1) d.val d.first in
+            same_depth _ p (ok_one d.rest) (omega arith)
+        | was_false t r ↦ same_depth _ p (ok_one r) h
       ]
 
   binary_fits : (l from : ℕ) (left p : Found Expr) (op : BinOp) → Reading.binary_of below n l from left op ≡ Ok p → p.depth ≤ suc n
@@ -179,7 +178,7 @@ module _ (ls : List Lexeme) (below : Reader) (n : ℕ) (fits : Fits below n) whe
   tail_fits l from zero left p h e = same_depth left p (ok_one e) h
   tail_fits l from (suc turns) left p h e =
       step_fits l from (Reading.tail_of ls below n l from turns) left p (operator_of l (slice_get ls left.end)) h
-        (λ q k r. tail_fits l from turns q p k r) e
+      (λ q k r. tail_fits l from turns q p k r) e
 
   rest_fits : (l from : ℕ) (left p : Found Expr) (last : Bool) → left.depth ≤ suc n → Reading.rest_of ls below n l from left last ≡ Ok p → p.depth ≤ suc n
   rest_fits l from left p false h e = tail_fits l from n left p h e
@@ -194,5 +193,5 @@ pub reader_fits : (ls : List Lexeme) (n : ℕ) → Fits (Reading.reader_of ls n)
 reader_fits ls zero = record { level = λ l at p e. cc; select = λ at s e. cc }
 reader_fits ls (suc n) = record {
   level = λ l at p e. level_fits ls (Reading.reader_of ls n) n (reader_fits ls n) l at p e;
-  select = λ at s e. select_fits ls (Reading.reader_of ls n) n (reader_fits ls n) at s e
+  select = λ at s e. select_fits ls (Reading.reader_of ls n) n (reader_fits ls n) at s e;
 }

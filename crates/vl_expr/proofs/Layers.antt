@@ -18,7 +18,6 @@ use Rattle.vl_expr.proofs.Comes.{found, Reads, Comes, Claim, Loose, loose, loose
 use Rattle.vl_expr.proofs.Primaries.{bind_at, if_true, if_false, stops_at}
 
 module _ (ls : List Lexeme) where
-
   pub tighter_comes : {m l i j : ℕ} {e : Expr} → Claim ls m l i j e → Loose (suc l) (slice_get ls j) → Claim ls m (suc l) i j e
   tighter_comes {m = m} {l = l} {i = i} {j = j} {e = e} c s = record { comes = comes }
     where
@@ -39,7 +38,7 @@ module _ (ls : List Lexeme) where
             least = d.least;
             enough = let f = d.least in omega arith;
             fits = d.fits;
-            is = bind_at _ (settled ls d stops) ∙ rest n d.depth (l == 10) s.stops refl
+            is = bind_at _ (settled ls d stops) ∙ rest n d.depth (l == 10) s.stops refl;
           }
 
   -- one turn of a tail: an operator and its right operand
@@ -57,7 +56,7 @@ module _ (ls : List Lexeme) where
     one = refl;
     is = ap (Reading.step_by (reader_of ls n) n l from (tail_of ls (reader_of ls n) n l from turns) p)
         (ap (operator_of l) h ∙ operator_there l x op o)
-      ∙ ap (λ read. read >>= tail_of ls (reader_of ls n) n l from turns) (if_true _ _ _ (le-leb p.depth n fits) ∙ bind_at _ r)
+        ∙ ap (λ read. read >>= tail_of ls (reader_of ls n) n l from turns) (if_true _ _ _ (le-leb p.depth n fits) ∙ bind_at _ r);
   }
 
   pub binary_comes : {m l i j k : ℕ} {x : Lexeme} {op : BinOp} {a b : Expr} → Claim ls m (suc l) i j a → At ls j x →
@@ -81,25 +80,25 @@ module _ (ls : List Lexeme) where
             enough = let g = d.enough in let q = t.one in omega arith;
             fits = let f = d.fits in let g = r.fits in omega arith;
             is = d.is ∙ ap (finish_by ls n l i d.turns (found a j d.depth)) ten ∙ t.is
-              ∙ sym (ap (finish_by ls n l i t.left (node (expr.Binary i op a b) k (max d.depth r.depth))) ten)
+                ∙ sym (ap (finish_by ls n l i t.left (node (expr.Binary i op a b) k (max d.depth r.depth))) ten);
           }
 
   pub choice_comes : {m i j k p : ℕ} {a b c : Expr} → Claim ls m 10 i j a → At ls j lex.Question → Claim ls m 11 (j + 1) k b →
       At ls k lex.Colon → Claim ls m 11 (k + 1) p c → Loose 11 (slice_get ls p) → Claim ls (suc m) 11 i p (expr.Choice i a b c)
   choice_comes {m = m} {i = i} {j = j} {k = k} {p = p} {a = a} {b = b} {c = c} ca hj cb hk cc s = record {
     comes = λ n le.
-      let d = ca.comes n (omega arith) in
-      let q = below_reads ls cb (stops_at hk (record { above = lit< tt })) n (omega arith) in
-      let r = below_reads ls cc s.stops n (omega arith) in
-      record {
-        turns = n;
-        depth = suc (max d.depth (max q.depth r.depth));
-        least = omega arith;
-        enough = omega arith;
-        fits = let f = d.fits in let g = q.fits in let h = r.fits in omega arith;
-        is = bind_at _ (settled ls d (stops_at hj (record { above = lit< tt })))
-          ∙ if_true _ _ _ (in_is_true (slice_get ls j) lex.Question hj)
-          ∙ if_true _ _ _ (le-leb d.depth n (let f = d.fits in omega arith))
-          ∙ bind_at _ q.is ∙ past_at ls k lex.Colon _ hk ∙ bind_at _ r.is
-      }
+        let d = ca.comes n (omega arith) in
+        let q = below_reads ls cb (stops_at hk (record { above = lit< tt })) n (omega arith) in
+        let r = below_reads ls cc s.stops n (omega arith) in
+        record {
+          turns = n;
+          depth = suc (max d.depth (max q.depth r.depth));
+          least = omega arith;
+          enough = omega arith;
+          fits = let f = d.fits in let g = q.fits in let h = r.fits in omega arith;
+          is = bind_at _ (settled ls d (stops_at hj (record { above = lit< tt })))
+              ∙ if_true _ _ _ (in_is_true (slice_get ls j) lex.Question hj)
+              ∙ if_true _ _ _ (le-leb d.depth n (let f = d.fits in omega arith))
+              ∙ bind_at _ q.is ∙ past_at ls k lex.Colon _ hk ∙ bind_at _ r.is;
+        };
   }

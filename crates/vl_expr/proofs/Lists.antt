@@ -25,7 +25,6 @@ use Rattle.vl_expr.proofs.Comes.{found, Reads, Comes, Claim, below_reads}
 use Rattle.vl_expr.proofs.Primaries.{bind_at, if_true, if_false, stops_at, not_at, node_comes, token_is}
 
 module _ (ls : List Lexeme) where
-
   -- selects
 
   pub index_reads : {m i j : ℕ} {e : Expr} → At ls i lex.OpenBracket → Claim ls m 11 (i + 1) j e → At ls j lex.CloseBracket →
@@ -37,8 +36,8 @@ module _ (ls : List Lexeme) where
         depth = suc r.depth;
         fits = let f = r.fits in omega arith;
         is = past_at ls i lex.OpenBracket _ h ∙ bind_at _ r.is
-          ∙ ap (Reading.select_by ls (reader_of ls n) i (found e j r.depth)) (ap between_of k)
-          ∙ past_at ls j lex.CloseBracket _ k
+            ∙ ap (Reading.select_by ls (reader_of ls n) i (found e j r.depth)) (ap between_of k)
+            ∙ past_at ls j lex.CloseBracket _ k;
       }
 
   range_reads : (i : ℕ) {m j k : ℕ} {a b : Expr} (x : Lexeme) (kind : Between) → Stops 11 (Some x) → between_of (Some x) ≡ Some kind →
@@ -52,8 +51,8 @@ module _ (ls : List Lexeme) where
         depth = suc (max p.depth q.depth);
         fits = let f = p.fits in let g = q.fits in omega arith;
         is = past_at ls i lex.OpenBracket _ h ∙ bind_at _ p.is
-          ∙ ap (Reading.select_by ls (reader_of ls n) i (found a j p.depth)) (ap between_of hx ∙ w)
-          ∙ bind_at _ q.is ∙ past_at ls k lex.CloseBracket _ hk
+            ∙ ap (Reading.select_by ls (reader_of ls n) i (found a j p.depth)) (ap between_of hx ∙ w)
+            ∙ bind_at _ q.is ∙ past_at ls k lex.CloseBracket _ hk;
       }
 
   pub part_reads : {m i j k : ℕ} {a b : Expr} → At ls i lex.OpenBracket → Claim ls m 11 (i + 1) j a → At ls j lex.Colon →
@@ -83,7 +82,7 @@ module _ (ls : List Lexeme) where
         depth = r.depth;
         fits = r.fits;
         is = if_true _ _ _ (in_is_true (slice_get ls i) lex.OpenBracket h) ∙ bind_at _ r.is
-          ∙ if_false _ _ _ (and_right (Reading.is_index t) (is_at ls j lex.OpenBracket) (no_bracket (slice_get ls j) s))
+            ∙ if_false _ _ _ (and_right (Reading.is_index t) (is_at ls j lex.OpenBracket) (no_bracket (slice_get ls j) s));
       }
 
   pub two_selects_read : {m i j k : ℕ} {e : Expr} {t : Select} → At ls i lex.OpenBracket →
@@ -97,8 +96,8 @@ module _ (ls : List Lexeme) where
         depth = max r.depth q.depth;
         fits = let f = r.fits in let g = q.fits in omega arith;
         is = if_true _ _ _ (in_is_true (slice_get ls i) lex.OpenBracket h) ∙ bind_at _ r.is
-          ∙ if_true _ _ _ (and_from (Reading.is_index (select.Index i e)) (is_at ls j lex.OpenBracket) (index_is i e) (in_is_true (slice_get ls j) lex.OpenBracket hj))
-          ∙ bind_at _ q.is
+            ∙ if_true _ _ _ (and_from (Reading.is_index (select.Index i e)) (is_at ls j lex.OpenBracket) (index_is i e) (in_is_true (slice_get ls j) lex.OpenBracket hj))
+            ∙ bind_at _ q.is;
       }
 
   -- lists of expressions
@@ -120,7 +119,7 @@ module _ (ls : List Lexeme) where
       record {
         depth = max acc.depth r.depth;
         fits = let f = r.fits in omega arith;
-        is = bind_at _ r.is ∙ exprs_end (reader_of ls n) turns (added acc (found e j r.depth)) k.comma
+        is = bind_at _ r.is ∙ exprs_end (reader_of ls n) turns (added acc (found e j r.depth)) k.comma;
       }
 
   pub more_further : {m i j k : ℕ} {e : Expr} {es : List Expr} → Claim ls m 11 i j e → At ls j lex.Comma → i ≤ j →
@@ -136,7 +135,7 @@ module _ (ls : List Lexeme) where
         depth = f.depth;
         fits = let g = r.fits in let q = f.fits in omega arith;
         is = bind_at _ r.is ∙ if_true _ _ _ (in_is_true (slice_get ls j) lex.Comma h) ∙ f.is
-          ∙ ap (λ tree. Ok (found tree k f.depth)) (append_assoc acc.tree (e ∷ []) es)
+            ∙ ap (λ tree. Ok (found tree k f.depth)) (append_assoc acc.tree (e ∷ []) es);
       }
 
   -- a list whose first expression was read
@@ -157,7 +156,7 @@ module _ (ls : List Lexeme) where
         brace = k.brace;
         depth = r.depth;
         fits = r.fits;
-        is = exprs_end (reader_of ls n) (length ls) (single (found e j r.depth)) k.comma
+        is = exprs_end (reader_of ls n) (length ls) (single (found e j r.depth)) k.comma;
       }
 
   -- what follows a first expression with a comma behind it
@@ -186,7 +185,7 @@ module _ (ls : List Lexeme) where
         brace = not_at lex.Comma lex.OpenBrace h refl;
         depth = f.depth;
         fits = let g = r.fits in let q = f.fits in omega arith;
-        is = f.is
+        is = f.is;
       }
 
   pub exprs_read : {n m i j : ℕ} {es : List Expr} → Starts n m i j es → Reads (Reading.exprs_of ls (reader_of ls n) i) es j m
@@ -199,7 +198,7 @@ module _ (ls : List Lexeme) where
   no_args_read i h k n le = record {
     depth = 0;
     fits = omega arith;
-    is = past_at ls i lex.OpenParen _ h ∙ if_true _ _ _ (in_is_true (slice_get ls (i + 1)) lex.CloseParen k)
+    is = past_at ls i lex.OpenParen _ h ∙ if_true _ _ _ (in_is_true (slice_get ls (i + 1)) lex.CloseParen k);
   }
 
   pub some_args_read : (i : ℕ) {m j : ℕ} {es : List Expr} → At ls i lex.OpenParen → is_at ls (i + 1) lex.CloseParen ≡ false →
@@ -210,17 +209,17 @@ module _ (ls : List Lexeme) where
       record {
         depth = r.depth;
         fits = r.fits;
-        is = past_at ls i lex.OpenParen _ h ∙ if_false _ _ _ first ∙ bind_at _ r.is ∙ past_at ls j lex.CloseParen _ k
+        is = past_at ls i lex.OpenParen _ h ∙ if_false _ _ _ first ∙ bind_at _ r.is ∙ past_at ls j lex.CloseParen _ k;
       }
 
   pub concat_comes : {m i j : ℕ} {es : List Expr} → At ls i lex.OpenBrace → ((n : ℕ) → m ≤ n → Starts n m (i + 1) j es) →
       At ls j lex.CloseBrace → Claim ls (suc m) 0 i (j + 1) (expr.Concat i es)
   concat_comes {i = i} {j = j} h c k = record {
     comes = λ n le.
-      let s = c n (omega arith) in
-      node_comes ls s.depth s.fits
+        let s = c n (omega arith) in
+        node_comes ls s.depth s.fits
         (token_is ls (reader_of ls n) i lex.OpenBrace start.Brace h refl refl ∙ bind_at _ s.is_first
-          ∙ if_false _ _ _ s.brace ∙ bind_at _ s.is ∙ past_at ls j lex.CloseBrace _ k)
+        ∙ if_false _ _ _ s.brace ∙ bind_at _ s.is ∙ past_at ls j lex.CloseBrace _ k);
   }
 
   plus_two : (i : ℕ) → i + 1 + 1 ≡ i + 2
@@ -231,11 +230,11 @@ module _ (ls : List Lexeme) where
       Claim ls (suc m) 0 i (k + 2) (expr.Replicate i e es)
   replicate_comes {m = m} {i = i} {j = j} {k = k} {e = e} {es = es} h c hj d hk last = record {
     comes = λ n le.
-      let r = below_reads ls c (stops_at hj (record { above = lit< tt })) n (omega arith) in
-      let s = exprs_read (d n (omega arith)) in
-      node_comes ls (max r.depth s.depth) (let f = r.fits in let g = s.fits in omega arith)
+        let r = below_reads ls c (stops_at hj (record { above = lit< tt })) n (omega arith) in
+        let s = exprs_read (d n (omega arith)) in
+        node_comes ls (max r.depth s.depth) (let f = r.fits in let g = s.fits in omega arith)
         (token_is ls (reader_of ls n) i lex.OpenBrace start.Brace h refl refl ∙ bind_at _ r.is
-          ∙ if_true _ _ _ (in_is_true (slice_get ls j) lex.OpenBrace hj) ∙ bind_at _ s.is
-          ∙ bind_at _ (past_at ls k lex.CloseBrace _ hk) ∙ past_at ls (k + 1) lex.CloseBrace _ last
-          ∙ ap (λ end. Ok (node (expr.Replicate i e es) end (max r.depth s.depth))) (plus_two k))
+        ∙ if_true _ _ _ (in_is_true (slice_get ls j) lex.OpenBrace hj) ∙ bind_at _ s.is
+        ∙ bind_at _ (past_at ls k lex.CloseBrace _ hk) ∙ past_at ls (k + 1) lex.CloseBrace _ last
+        ∙ ap (λ end. Ok (node (expr.Replicate i e es) end (max r.depth s.depth))) (plus_two k));
   }

@@ -44,7 +44,6 @@ pub not_at : {o : Option Lexeme} (x y : Lexeme) → o ≡ Some x → is_in (Some
 not_at x y e h = rw e h
 
 module _ (ls : List Lexeme) where
-
   -- an operand is read to its end at once
   operand_comes : {n m i j : ℕ} {e : Expr} → Reads (Reading.operand_of ls (reader_of ls n) i) e j (suc m) →
       ((d : ℕ) → Reading.operand_of ls (reader_of ls n) i ≡ Ok (found e j d) → 1 ≤ d) → Comes ls n (suc m) 0 i j e
@@ -71,30 +70,30 @@ module _ (ls : List Lexeme) where
       Claim ls m 0 (i + 1) j e → Stops 0 (slice_get ls j) → Claim ls (suc m) 0 i j (expr.Unary i op e)
   unary_comes {i = i} {op = op} h u c s = record {
     comes = λ n le.
-      let r = below_reads ls c s n (omega arith) in
-      node_comes r.depth r.fits
-        (ap (Reading.operand_by ls (reader_of ls n) i) (ap unary_of h ∙ u) ∙ bind_at _ r.is)
+        let r = below_reads ls c s n (omega arith) in
+        node_comes r.depth r.fits
+        (ap (Reading.operand_by ls (reader_of ls n) i) (ap unary_of h ∙ u) ∙ bind_at _ r.is);
   }
 
   pub sized_comes : {m i : ℕ} → At ls i lex.Decimal → At ls (i + 1) lex.Based →
       Claim ls (suc m) 0 i (i + 2) (expr.Based i (Some i) (i + 1))
   sized_comes {i = i} h b = record {
     comes = λ n le. node_comes 0 (omega arith)
-      (token_is (reader_of ls n) i lex.Decimal start.Decimal h refl refl
-        ∙ ap (λ t. Ok (Reading.decimal_by i t)) (in_is_true (slice_get ls (i + 1)) lex.Based b))
+        (token_is (reader_of ls n) i lex.Decimal start.Decimal h refl refl
+        ∙ ap (λ t. Ok (Reading.decimal_by i t)) (in_is_true (slice_get ls (i + 1)) lex.Based b));
   }
 
   pub based_comes : {m i : ℕ} → At ls i lex.Based → Claim ls (suc m) 0 i (i + 1) (expr.Based i None i)
   based_comes {i = i} h = record {
-    comes = λ n le. node_comes 0 (omega arith) (token_is (reader_of ls n) i lex.Based start.Based h refl refl)
+    comes = λ n le. node_comes 0 (omega arith) (token_is (reader_of ls n) i lex.Based start.Based h refl refl);
   }
 
   pub decimal_comes : {m i : ℕ} → At ls i lex.Decimal → Stops 0 (slice_get ls (i + 1)) →
       Claim ls (suc m) 0 i (i + 1) (expr.Decimal i i)
   decimal_comes {i = i} h s = record {
     comes = λ n le. node_comes 0 (omega arith)
-      (token_is (reader_of ls n) i lex.Decimal start.Decimal h refl refl
-        ∙ ap (λ t. Ok (Reading.decimal_by i t)) (no_base (slice_get ls (i + 1)) s))
+        (token_is (reader_of ls n) i lex.Decimal start.Decimal h refl refl
+        ∙ ap (λ t. Ok (Reading.decimal_by i t)) (no_base (slice_get ls (i + 1)) s));
   }
 
   pub name_comes : {m i j : ℕ} {ss : List Select} → IsName ls i → is_at ls (i + 1) lex.OpenParen ≡ false →
@@ -102,8 +101,8 @@ module _ (ls : List Lexeme) where
       Claim ls (suc m) 0 i j (expr.Name i i ss)
   name_comes {i = i} h p c = record {
     comes = λ n le.
-      let r = c n (omega arith) in
-      node_comes r.depth r.fits (name_is (reader_of ls n) i h ∙ ap (Reading.name_by ls (reader_of ls n) i) p ∙ bind_at _ r.is)
+        let r = c n (omega arith) in
+        node_comes r.depth r.fits (name_is (reader_of ls n) i h ∙ ap (Reading.name_by ls (reader_of ls n) i) p ∙ bind_at _ r.is);
   }
 
   pub call_comes : {m i j : ℕ} {es : List Expr} → IsName ls i → At ls (i + 1) lex.OpenParen →
@@ -111,9 +110,9 @@ module _ (ls : List Lexeme) where
       Claim ls (suc m) 0 i j (expr.Call i i es)
   call_comes {i = i} h p c = record {
     comes = λ n le.
-      let r = c n (omega arith) in
-      node_comes r.depth r.fits
-        (name_is (reader_of ls n) i h ∙ ap (Reading.name_by ls (reader_of ls n) i) (in_is_true (slice_get ls (i + 1)) lex.OpenParen p) ∙ bind_at _ r.is)
+        let r = c n (omega arith) in
+        node_comes r.depth r.fits
+        (name_is (reader_of ls n) i h ∙ ap (Reading.name_by ls (reader_of ls n) i) (in_is_true (slice_get ls (i + 1)) lex.OpenParen p) ∙ bind_at _ r.is);
   }
 
   -- an expression in parentheses
@@ -124,15 +123,15 @@ module _ (ls : List Lexeme) where
       record {
         depth = r.depth;
         fits = r.fits;
-        is = past_at ls i lex.OpenParen _ h ∙ bind_at _ r.is ∙ past_at ls j lex.CloseParen _ k
+        is = past_at ls i lex.OpenParen _ h ∙ bind_at _ r.is ∙ past_at ls j lex.CloseParen _ k;
       }
 
   pub parens_comes : {m i j : ℕ} {e : Expr} → At ls i lex.OpenParen → Claim ls m 11 (i + 1) j e → At ls j lex.CloseParen →
       Claim ls (suc m) 0 i (j + 1) e
   parens_comes {i = i} h c k = record {
     comes = λ n le.
-      let r = paren_is i h c k n (omega arith) in
-      node_comes r.depth r.fits (token_is (reader_of ls n) i lex.OpenParen start.Paren h refl refl ∙ bind_at _ r.is)
+        let r = paren_is i h c k n (omega arith) in
+        node_comes r.depth r.fits (token_is (reader_of ls n) i lex.OpenParen start.Paren h refl refl ∙ bind_at _ r.is);
   }
 
   plus_two : (i : ℕ) → i + 2 ≡ i + 1 + 1
@@ -142,6 +141,6 @@ module _ (ls : List Lexeme) where
       At ls (i + 1) lex.OpenParen → Claim ls m 11 (i + 2) j e → At ls j lex.CloseParen → Claim ls (suc m) 0 i (j + 1) (expr.Sign i s e)
   sign_comes {m = m} {i = i} {j = j} {e = e} x s u st h p c k = record {
     comes = λ n le.
-      let r = paren_is (i + 1) p (subst (λ q. Claim ls m 11 q j e) (plus_two i) c) k n (omega arith) in
-      node_comes r.depth r.fits (token_is (reader_of ls n) i x (start.Sign s) h u st ∙ bind_at _ r.is)
+        let r = paren_is (i + 1) p (subst (λ q. Claim ls m 11 q j e) (plus_two i) c) k n (omega arith) in
+        node_comes r.depth r.fits (token_is (reader_of ls n) i x (start.Sign s) h u st ∙ bind_at _ r.is);
   }

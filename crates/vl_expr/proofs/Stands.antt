@@ -48,7 +48,7 @@ single_stands s = record { at_least = λ m h. IsExprs.last_expr (s.at_least m h)
 pub added_stands : {ls : List Lexeme} {i : ℕ} {all : Found (List Expr)} {p : Found Expr} →
     ExprsStand ls i all → At ls all.end lex.Comma → Stands ls 11 (all.end + 1) p → ExprsStand ls i (added all p)
 added_stands {all = all} {p = p} s c e = record {
-  at_least = λ m h. snoc (s.at_least m (max_left all.depth p.depth m h)) c (e.at_least m (max_right all.depth p.depth m h))
+  at_least = λ m h. snoc (s.at_least m (max_left all.depth p.depth m h)) c (e.at_least m (max_right all.depth p.depth m h));
 }
 
 -- a node, whose parts are within a depth wherever the node is within one more

@@ -24,12 +24,11 @@ turns_left : (turn d : ℕ) → turn < d → d - turn ≡ suc (d - (turn + 1))
 turns_left turn d h = omega arith
 
 module _ (ls : List Lexeme) (below : Reader) where
-
   tail_step : (n l from turn d : ℕ) (left : Found Expr) (op : BinOp) → turn < d → operator_of l (slice_get ls left.end) ≡ Some op →
       tail_of ls below n l from (d - turn) left ≡ (Reading.binary_of below n l from left op >>= tail_of ls below n l from (d - (turn + 1)))
   tail_step n l from turn d left op h o =
       ap (λ k. tail_of ls below n l from k left) (turns_left turn d h)
-        ∙ ap (Reading.step_by below n l from (tail_of ls below n l from (d - (turn + 1))) left) o
+      ∙ ap (Reading.step_by below n l from (tail_of ls below n l from (d - (turn + 1))) left) o
 
   pub tail_more : (n l from turn d : ℕ) (left next : Found Expr) (op : BinOp) → turn < d → operator_of l (slice_get ls left.end) ≡ Some op →
       Reading.binary_of below n l from left op ≡ Ok next →
@@ -41,7 +40,7 @@ module _ (ls : List Lexeme) (below : Reader) where
       Gives (Err e) (tail_of ls below n l from (d - turn) left)
   tail_stuck n l from turn d left op e h o g =
       gives_along (Err e) _ _ (tail_step n l from turn d left op h o)
-        (gives_stuck e (Reading.binary_of below n l from left op) (tail_of ls below n l from (d - (turn + 1))) g)
+      (gives_stuck e (Reading.binary_of below n l from left op) (tail_of ls below n l from (d - (turn + 1))) g)
 
   exprs_step : (turn d : ℕ) (all : Found (List Expr)) → turn < d → is_at ls all.end lex.Comma ≡ true →
       exprs_from ls below (d - turn) all ≡ (below.level 11 (all.end + 1) >>= λ p. exprs_from ls below (d - (turn + 1)) (added all p))
@@ -57,7 +56,7 @@ module _ (ls : List Lexeme) (below : Reader) where
       Gives (Err e) (below.level 11 (all.end + 1)) → Gives (Err e) (exprs_from ls below (d - turn) all)
   exprs_stuck turn d all e h c g =
       gives_along (Err e) _ _ (exprs_step turn d all h c)
-        (gives_stuck e (below.level 11 (all.end + 1)) (λ p. exprs_from ls below (d - (turn + 1)) (added all p)) g)
+      (gives_stuck e (below.level 11 (all.end + 1)) (λ p. exprs_from ls below (d - (turn + 1)) (added all p)) g)
 
   pub level_up : (n l at : ℕ) (left : Found Expr) (r : Result (Found Expr) ParseError) → l ≢ 0 → level_of ls below n (l - 1) at ≡ Ok left →
       Gives r (rest_of ls below n (l - 1) at left ((l - 1) == 10)) → Gives r (level_of ls below n l at)

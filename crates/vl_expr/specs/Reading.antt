@@ -191,9 +191,9 @@ abbrev pub choice_by : List Lexeme → Reader → ℕ → ℕ → Found Expr →
 choice_by ls below n from test =
     if nat_le test.depth n
     then (below.level 11 (test.end + 1) >>= λ first.
-      past ls first.end lex.Colon
-      (below.level 11 (first.end + 1) >>= λ second.
-      Ok (node (expr.Choice from test.tree first.tree second.tree) second.end (max test.depth (max first.depth second.depth)))))
+    past ls first.end lex.Colon
+    (below.level 11 (first.end + 1) >>= λ second.
+    Ok (node (expr.Choice from test.tree first.tree second.tree) second.end (max test.depth (max first.depth second.depth)))))
     else Err test.end
 
 -- [ "?" expr ":" expr ]
@@ -205,7 +205,7 @@ abbrev pub binary_of : Reader → ℕ → ℕ → ℕ → Found Expr → BinOp �
 binary_of below n l from left op =
     if nat_le left.depth n
     then (below.level l (left.end + 1) >>= λ right.
-      Ok (node (expr.Binary from op left.tree right.tree) right.end (max left.depth right.depth)))
+    Ok (node (expr.Binary from op left.tree right.tree) right.end (max left.depth right.depth)))
     else Err left.end
 
 abbrev pub step_by : Reader → ℕ → ℕ → ℕ → (Found Expr → Reading (Found Expr)) → Found Expr → Option BinOp → Reading (Found Expr)
@@ -232,5 +232,5 @@ abbrev pub reader_of : List Lexeme → ℕ → Reader
 reader_of ls zero = record { level = λ l at. Err at; select = λ at. Err at }
 reader_of ls (suc n) = record {
   level = λ l at. level_of ls (reader_of ls n) n l at;
-  select = λ at. select_of ls (reader_of ls n) at
+  select = λ at. select_of ls (reader_of ls n) at;
 }

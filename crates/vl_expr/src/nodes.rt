@@ -48,10 +48,7 @@ pub fn single<T: Drop>(alloc: Global, part: Found<T>) -> Result<Found<Items<T>>,
 }
 
 /// A list with one part more.
-pub fn added<T: Drop>(
-    list: Found<Items<T>>,
-    part: Found<T>,
-) -> Result<Found<Items<T>>, ParseError>
+pub fn added<T: Drop>(list: Found<Items<T>>, part: Found<T>) -> Result<Found<Items<T>>, ParseError>
     ensures { Makes result (added list part) }
 {
     let mut tree = list.tree;

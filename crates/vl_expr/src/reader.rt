@@ -10,8 +10,9 @@ ghost use Rattle.vl_expr.specs.Reading.{Gives, reader_of, level_of, rest_of, tai
 use crate::classes::{Start, between_at, expect, is_at, operator_at, start_at, unary_at};
 use crate::found::{Found, ParseError};
 use crate::nodes::{
-    added, based, binary_node, call_node, choice_node, closed, concat_node, decimal, index_node, is_index, name_node,
-    no_args, no_selects, node, range_node, replicate_node, sign_node, single, unary_node,
+    added, based, binary_node, call_node, choice_node, closed, concat_node, decimal, index_node,
+    is_index, name_node, no_args, no_selects, node, range_node, replicate_node, sign_node, single,
+    unary_node,
 };
 use sqlite_items::Items;
 use std::alloc::Global;

@@ -68,12 +68,12 @@ abbrev pub invariant-tail_at-turns : goal.invariant-tail_at-turns
 invariant-tail_at-turns l = record {
   shallow : l.left.depth ≤ l.depth + 1;
   gives : tail_of l.lexemes (reader_of l.lexemes l.depth) l.depth l.level l.from l.depth l.fn.first
-    ≡ tail_of l.lexemes (reader_of l.lexemes l.depth) l.depth l.level l.from (l.depth - l.turn) l.left
+      ≡ tail_of l.lexemes (reader_of l.lexemes l.depth) l.depth l.level l.from (l.depth - l.turn) l.left;
 }
 
 abbrev pub invariant-exprs_behind-turns : goal.invariant-exprs_behind-turns
 invariant-exprs_behind-turns l = record {
   shallow : l.all.depth ≤ l.depth;
   gives : exprs_from l.lexemes (reader_of l.lexemes l.depth) (length l.lexemes) l.fn.first
-    ≡ exprs_from l.lexemes (reader_of l.lexemes l.depth) (length l.lexemes - l.turn) l.all
+      ≡ exprs_from l.lexemes (reader_of l.lexemes l.depth) (length l.lexemes - l.turn) l.all;
 }
