@@ -1,0 +1,5 @@
+use Rattle.nt_write.proofs.Taking.{pieces5}
+use Rattle.nt_write.proofs.pen.Pen.concat.Goals as goal
+
+pub returns : goal.returns
+returns g c = pieces5 c.put.ensures c.node.ensures c.put-2.ensures c.node-2.ensures c.put-3.ensures

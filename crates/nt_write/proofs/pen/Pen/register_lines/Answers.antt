@@ -1,0 +1,13 @@
+use Rattle.std.proofs.Common.{ap}
+use Rattle.std.proofs.lemmas.List.{take_all}
+use Rattle.nt_core.specs.Text.{numbered, register_line}
+use Rattle.nt_write.specs.Lines.{ended, lines}
+use Rattle.nt_write.proofs.LineLists.{each_numbered}
+use Rattle.nt_write.proofs.Taking.{takes_is, pieces2}
+use Rattle.nt_write.proofs.pen.Pen.register_lines.Goals as goal
+
+pub loop-place-preserved : goal.loop-place-preserved
+loop-place-preserved g c = takes_is _ _ _ _ (pieces2 c.loop-place.invariant c.register_line.ensures) (each_numbered ended register_line _ _ _ c.loop-place-test.true c.index-registers-place.is)
+
+pub returns : goal.returns
+returns g c = takes_is _ _ _ _ c.loop-place.invariant (ap (λ xs. lines (numbered register_line xs)) (take_all _ _ c.loop-place-test.false))
