@@ -11,3 +11,7 @@ pub mod Layers
 pub mod Complete
 pub mod Fits
 pub mod Turns
+pub mod Laws
+pub mod Tables
+pub mod Spans
+pub mod Told

@@ -9,6 +9,7 @@ use Rattle.vl_tree.specs.declared.exprs.Expr.TheVariants as expr
 use Rattle.vl_tree.specs.declared.exprs.Select.{Select, out-Select}
 use Rattle.vl_tree.specs.declared.exprs.Select.TheVariants as select
 use Rattle.vl_tree.specs.declared.exprs.Expr.TheOpen as layer
+use Rattle.vl_tree.specs.Expressions.{ends_expr}
 use Rattle.vl_expr.specs.declared.classes.Start.{Start}
 use Rattle.vl_expr.specs.declared.classes.Start.TheVariants as start
 use Rattle.vl_expr.specs.declared.classes.Between.{Between}
@@ -234,3 +235,11 @@ reader_of ls (suc n) = record {
   level = λ l at. level_of ls (reader_of ls n) n l at;
   select = λ at. select_of ls (reader_of ls n) at;
 }
+
+-- an expression that is not deeper than n
+abbrev pub expr_of : List Lexeme → ℕ → ℕ → Reading (Found Expr)
+expr_of ls n at = (reader_of ls n).level 11 at
+
+-- the same, if it ends before one of the tokens ) ] } , ; : { +: -:
+abbrev pub whole_of : List Lexeme → ℕ → ℕ → Reading (Found Expr)
+whole_of ls n at = expr_of ls n at >>= λ p. if ends_expr (slice_get ls p.end) then Ok p else Err p.end

@@ -2,6 +2,7 @@
 ghost use Rattle.std.specs.Prelude.{◌≡◌, ◌≢◌, ◌<◌, ◌^◌, ◌-◌, slice_get, length, IsTrue, OnSome, OnOk, MatchResult, true, false};
 ghost use Rattle.vl_tree.specs.Operators.{unary, binary};
 ghost use Rattle.vl_tree.specs.Places.{is_name};
+ghost use Rattle.vl_tree.specs.Expressions.{ends_expr};
 ghost use Rattle.vl_expr.specs.Classes.{start_of, operator_of, between_of, is_at, unary_of, of_layer};
 
 use crate::found::ParseError;
@@ -180,4 +181,24 @@ pub fn between_at(lexemes: &[Lexeme], at: u32) -> Option<Between>
         Some(Lexeme::MinusColon) => Some(Between::MinusColon),
         _ => None,
     }
+}
+
+/// Whether an expression ends before a place.
+pub fn ends_at(lexemes: &[Lexeme], at: u32) -> bool
+    ensures { result ≡ ends_expr (slice_get lexemes.now at) }
+{
+    matches!(
+        lexemes.get(at as usize),
+        Some(
+            Lexeme::CloseParen
+                | Lexeme::CloseBracket
+                | Lexeme::CloseBrace
+                | Lexeme::Comma
+                | Lexeme::Semicolon
+                | Lexeme::Colon
+                | Lexeme::OpenBrace
+                | Lexeme::PlusColon
+                | Lexeme::MinusColon
+        )
+    )
 }

@@ -2,10 +2,12 @@
 //!
 //! A function takes the depth that what stands inside may have, and the place where it begins. The levels are 0 for an
 //! operand, 1 to 10 for the layers of binary operators from the tightest on, and 11 for an expression.
-ghost use Rattle.std.specs.Prelude.{◌<◌, ◌≤◌, ◌^◌, ◌-◌, ◌+◌, ◌==◌, length, slice_get, IfOk};
+ghost use Rattle.std.specs.Prelude.{◌≡◌, ℕ, MatchResult, ◌<◌, ◌≤◌, ◌^◌, ◌-◌, ◌+◌, ◌==◌, length, slice_get, IfOk};
 ghost use Rattle.vl_tree.specs.declared.lexemes.Lexeme.TheVariants as lex;
 ghost use Rattle.vl_expr.specs.Classes.{is_at, start_of, between_of};
-ghost use Rattle.vl_expr.specs.Reading.{Gives, reader_of, level_of, rest_of, tail_of, choice_of, binary_of, operand_of, primary_by, name_by, paren_of, args_of, exprs_of, exprs_from, braces_of, replicate_of, concat_of, selects_of, second_of, select_by};
+ghost use Rattle.vl_expr.specs.Reading.{Gives, reader_of, level_of, rest_of, tail_of, choice_of, binary_of, operand_of, primary_by, name_by, paren_of, args_of, exprs_of, exprs_from, braces_of, replicate_of, concat_of, selects_of, second_of, select_by, expr_of};
+ghost use Rattle.vl_tree.specs.declared.exprs.Expr.{Expr};
+ghost use Rattle.vl_tree.specs.Expressions.{IsExpr, IsWholeExpr};
 
 use crate::classes::{Start, between_at, expect, is_at, operator_at, start_at, unary_at};
 use crate::found::{Found, ParseError};
@@ -476,4 +478,20 @@ fn range_at(
             Ok(range_node(kind, at, first, second))
         }
     }
+}
+
+/// The expression that begins at a place and is not deeper than `depth`.
+pub fn expr_at(
+    alloc: Global,
+    lexemes: &[Lexeme],
+    depth: u32,
+    at: u32,
+) -> Result<Found<Expr>, ParseError>
+    requires { length lexemes.now < 2 ^ 32 - 2 }
+    ensures exact { Gives result (expr_of lexemes.now depth at) }
+    ensures found { IfOk result (λ p. IsExpr lexemes.now depth at p.end p.tree) }
+    ensures only { (e : Expr) (j : ℕ) → IsWholeExpr lexemes.now depth at j e →
+        MatchResult result (λ p. (p.tree ≡ e) × (p.end ≡ j)) (λ f. f ≡ ParseError.Memory) }
+{
+    below(alloc, lexemes, depth, 11, at)
 }

@@ -1,3 +1,4 @@
+pub mod Lexemes
 pub mod Places
 pub mod Lists
 pub mod Operators
