@@ -1,4 +1,6 @@
 pub mod Equations
+pub mod Writes
+pub mod Targets
 pub mod Lookups
 pub mod Values
 pub mod Settling

@@ -67,10 +67,6 @@ abbrev pub enable_misfits : Option FlatTask → List Expr → List Lvalue → Bo
 enable_misfits None ins outs = false
 enable_misfits (Some t) ins outs = misfits t.ins ins t.outs outs
 
-abbrev pub result_is_nowhere : Option Lvalue → Bool
-result_is_nowhere None = false
-result_is_nowhere (Some t) = is_nowhere t
-
 -- a call of an import as a statement has no result, and one that gives its result to a target has one
 abbrev pub host_misfits : Option Import → List Expr → Option Lvalue → List Lvalue → Bool
 host_misfits None ins result outs = false

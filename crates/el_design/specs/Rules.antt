@@ -1,5 +1,5 @@
 -- The rules that a flat design keeps, each with the place of a break, and the first break. All of it is this project's own.
-use Rattle.std.specs.Prelude.{◌≡◌, ◌≢◌, ◌⊎◌, ◌*◌, ◌<◌, ◌≤◌, ℕ, true, List, [], Some, Contains, map, sum, length, slice_get}
+use Rattle.std.specs.Prelude.{◌≡◌, ◌≢◌, ◌⊎◌, ◌+◌, ◌*◌, ◌<◌, ◌≤◌, ℕ, true, List, [], Some, Contains, map, sum, length, slice_get}
 use Rattle.xt_base.specs.declared.refusals.Place.{Place}
 use Rattle.el_design.specs.declared.designs.Var.{Var}
 use Rattle.el_design.specs.Plain.{Expr, Statement, FlatNet, FlatProc, FlatFunc, Flat}
@@ -31,9 +31,9 @@ max_nesting = 64
 -- ---- nesting and sizes in place, each loop's body counted once (rule 82)
 
 pub data NestsTooDeep (d : Flat) : Place → Type 0 where
-  process_nests : {process : FlatProc} → Contains d.procs process → Chain d 65 process.body → NestsTooDeep d process.place
+  process_nests : {process : FlatProc} → Contains d.procs process → Chain d (max_nesting + 1) process.body → NestsTooDeep d process.place
   net_nests : {f : ℕ} {net : FlatNet} {e : Expr} {body : Statement} →
-      Contains d.nets net → net.value ≡ Some e → Contains (calls_in e) f → BodyIs d (FunctionOf f) body → Chain d 64 body → NestsTooDeep d net.place
+      Contains d.nets net → net.value ≡ Some e → Contains (calls_in e) f → BodyIs d (FunctionOf f) body → Chain d max_nesting body → NestsTooDeep d net.place
   process_large : {process : FlatProc} → Contains d.procs process → max_u < u_of d once process → NestsTooDeep d process.place
 
 -- ---- walks (rules 61 and 83)

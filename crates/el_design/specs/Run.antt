@@ -91,7 +91,7 @@ RunsBy d C x (es ∷ plays) trace =
 
 -- ---- choosers
 
--- any event that may be taken (IEEE 1364-2005, 11.4.1: the order is arbitrary)
+-- any event that may be taken (IEEE 1364-2005, 11.4.2: the order is arbitrary)
 abbrev pub Any : ℕ → List Event → Event → Type 0
 Any k es e = Unit {0}
 

@@ -177,6 +177,55 @@ mutual
 abbrev pub IsOutput : Flat → Lvalue → Type 0
 IsOutput d t = (is_nowhere t ≡ true) ⊎ ((w : ℕ) × IsTarget d t w × IsWidth w)
 
+-- ---- marks: each block with a name and each task has one of its own
+
+abbrev pub marks_in : Statement → List ℕ
+marks_in (Seq a b) = marks_in a ++ marks_in b
+marks_in (Block at None body) = marks_in body
+marks_in (Block at (Some m) body) = m ∷ marks_in body
+marks_in (If at test a b) = marks_in a ++ marks_in b
+marks_in (Case at on arms) = marks_in arms
+marks_in (Arm on labels body others) = marks_in body ++ marks_in others
+marks_in (For at v first test next body) = marks_in body
+marks_in (While at test body) = marks_in body
+marks_in (Repeat at count body) = marks_in body
+marks_in (Forever at body) = marks_in body
+marks_in x = []
+
+abbrev pub bodies_of : Flat → List Statement
+bodies_of d = map (λ p. p.body) d.procs ++ map (λ t. t.body) d.tasks ++ map (λ f. f.body) d.funcs
+
+abbrev pub all_marks : Flat → List ℕ
+all_marks d = map (λ t. t.mark) d.tasks ++ flat_map marks_in (bodies_of d)
+
+-- how many nodes of a target and of a statement stand in one another
+abbrev pub target_depth : Lvalue → ℕ
+target_depth (ToVariable v) = 1
+target_depth (ToPart v r) = suc (range_depth r)
+target_depth (ToWord v i) = suc (depth i)
+target_depth (ToWordPart v i r) = suc (max (depth i) (range_depth r))
+target_depth (Both a b) = suc (max (target_depth a) (target_depth b))
+target_depth Nowhere = 1
+
+abbrev pub deepest : List ℕ → ℕ
+deepest [] = 0
+deepest (n ∷ ns) = max n (deepest ns)
+
+abbrev pub own_depth : Statement → ℕ
+own_depth x = max (deepest (map depth (own_expressions x))) (deepest (map target_depth (own_targets x)))
+
+abbrev pub statement_depth : Statement → ℕ
+statement_depth (Seq a b) = max (statement_depth a) (statement_depth b)
+statement_depth (Arm on labels body others) = max (statement_depth body) (statement_depth others)
+statement_depth (Block at mark body) = suc (statement_depth body)
+statement_depth (If at test a b) = suc (max (depth test) (max (statement_depth a) (statement_depth b)))
+statement_depth (Case at on arms) = suc (max (own_depth (Case at on arms)) (statement_depth arms))
+statement_depth (For at v first test next body) = suc (max (own_depth (For at v first test next body)) (statement_depth body))
+statement_depth (While at test body) = suc (max (depth test) (statement_depth body))
+statement_depth (Repeat at count body) = suc (max (depth count) (statement_depth body))
+statement_depth (Forever at body) = suc (statement_depth body)
+statement_depth x = suc (own_depth x)
+
 -- ---- statements
 
 -- an argument is as wide as the formal of its place at least
@@ -200,35 +249,14 @@ FitsStatement d (Assign at to e held) = (w : ℕ) × IsTarget d to w × IsWidth 
 FitsStatement d (Case at on arms) = All (λ l. width l ≡ width on) (labels_in arms)
 FitsStatement d (For at v first test next body) = (w : ℕ) × IsPlainVariable d v w × (w ≤ width first) × (w ≤ width next)
 FitsStatement d (Enable at t ins outs) = FitsTask d ins (slice_get d.tasks t)
-FitsStatement d (Disable at m) = m < d.marks
-FitsStatement d (Host at f ins result outs) = FitsImport ins (slice_get d.imports f)
+FitsStatement d (Disable at m) = Contains (all_marks d) m
+FitsStatement d (Host at f ins result outs) = FitsImport ins (slice_get d.imports f) × IfSome result (λ t. (w : ℕ) × IsTarget d t w × IsWidth w)
 FitsStatement d x = Unit {0}
 
 pub record IsStatement (d : Flat) (x : Statement) : Type 0 where
   pub expressions : All (IsExpr d) (own_expressions x)
   pub outputs : All (IsOutput d) (own_targets x)
   pub fits : FitsStatement d x
-
--- ---- marks: each block with a name and each task has one of its own
-
-abbrev pub marks_in : Statement → List ℕ
-marks_in (Seq a b) = marks_in a ++ marks_in b
-marks_in (Block at None body) = marks_in body
-marks_in (Block at (Some m) body) = m ∷ marks_in body
-marks_in (If at test a b) = marks_in a ++ marks_in b
-marks_in (Case at on arms) = marks_in arms
-marks_in (Arm on labels body others) = marks_in body ++ marks_in others
-marks_in (For at v first test next body) = marks_in body
-marks_in (While at test body) = marks_in body
-marks_in (Repeat at count body) = marks_in body
-marks_in (Forever at body) = marks_in body
-marks_in x = []
-
-abbrev pub bodies_of : Flat → List Statement
-bodies_of d = map (λ p. p.body) d.procs ++ map (λ t. t.body) d.tasks ++ map (λ f. f.body) d.funcs
-
-abbrev pub all_marks : Flat → List ℕ
-all_marks d = map (λ t. t.mark) d.tasks ++ flat_map marks_in (bodies_of d)
 
 -- ---- variables of functions
 
@@ -244,6 +272,7 @@ pub record KeepsToItself (d : Flat) (f : ℕ) (g : FlatFunc) : Type 0 where
   pub formals : (t : FlatTask) (v : ℕ) → Contains d.tasks t → Contains (t.ins ++ t.outs) v → Contains (variables_of g) v → ⊥
   pub functions : (i : ℕ) (h : FlatFunc) (x : Statement) (v : ℕ) → slice_get d.funcs i ≡ Some h → i ≢ f → Holds h.body x → Contains (variables_at x) v → Contains (variables_of g) v → ⊥
   pub others : (i : ℕ) (h : FlatFunc) (v : ℕ) → slice_get d.funcs i ≡ Some h → i ≢ f → Contains (variables_of h) v → Contains (variables_of g) v → ⊥
+  pub pins : (pin : Pin) (v : ℕ) → Contains d.outputs pin → pin.from ≡ sources.Var v → Contains (variables_of g) v → ⊥
   pub nets : (n : FlatNet) (e : Expr) (v : ℕ) → Contains d.nets n → n.value ≡ Some e → Contains (variables_in e) v → Contains (variables_of g) v → ⊥
 
 -- ---- the lists
@@ -253,9 +282,12 @@ pub record IsVariable (v : Var) : Type 0 where
   pub wide : IsWidth v.width
   pub start : v.start.width ≡ v.width
   pub fits : v.start.value < 2 ^ v.start.width
+  pub bits : v.lsb + v.width ≤ 65536
+  pub places : v.low + v.words ≤ 65536
 
 pub record IsFlatNet (d : Flat) (n : FlatNet) : Type 0 where
   pub wide : IsWidth n.width
+  pub bits : n.lsb + n.width ≤ 65536
   pub value : IfSome n.value (λ e. IsExpr d e × (n.width ≤ width e))
 
 abbrev pub ArePorts : List Port → Type 0
@@ -290,6 +322,7 @@ pub record IsSound (d : Flat) : Type 0 where
   pub tasks : All (λ t. All (λ v. (w : ℕ) × IsPlainVariable d v w) (t.ins ++ t.outs)) d.tasks
   pub funcs : (f : ℕ) (g : FlatFunc) → slice_get d.funcs f ≡ Some g → KeepsToItself d f g
   pub statements : (s x : Statement) → Contains (bodies_of d) s → Holds s x → IsStatement d x
+  pub shallow : All (λ s. statement_depth s ≤ max_depth) (bodies_of d)
   pub marks_below : All (λ m. m < d.marks) (all_marks d)
   pub marks_distinct : AllPairs (λ a b. a ≢ b) (all_marks d)
   pub inputs : All (IsInput d) d.inputs

@@ -65,7 +65,7 @@ abbrev pub wake : List Work → List Work
 wake (Do (Wait at falling) ∷ k) = settle k
 wake k = k
 
--- what lies below the nearest end with the mark, if there is one: a `disable` ends all above it and copies nothing out (IEEE 1364-2005, clause 11)
+-- what lies below the nearest end with the mark, if there is one: a `disable` ends all above it (IEEE 1364-2005, 10.3), and copies nothing out, which is this project's own
 abbrev pub below_mark : ℕ → List Work → Option (List Work)
 below_mark m [] = None
 below_mark m (End n ∷ k) = if n == m then Some k else below_mark m k

@@ -2,7 +2,7 @@
 use Rattle.std.specs.Prelude.{◌≡◌, ℕ, ◌&&◌, Bool, true, false, List, [], ◌∷◌, Option, Some, None, Contains, slice_get}
 use Rattle.std.specs.List.{list_all}
 use Rattle.xt_base.specs.declared.refusals.Place.{Place}
-use Rattle.el_design.specs.Plain.{Expr, Lvalue, Statement, Assign, If, Case, Arm, Enable, Disable, Host, FlatTask, Flat}
+use Rattle.el_design.specs.Plain.{Expr, Lvalue, Statement, Assign, If, Case, Arm, For, Enable, Disable, Host, FlatTask, Flat}
 use Rattle.el_design.specs.Assign.{arm_chosen}
 use Rattle.el_design.specs.Stack.{Work, Do, Return, Turns, quiet_step, below_mark}
 use Rattle.el_design.specs.Act.{turn}
@@ -21,6 +21,11 @@ is_constant_case on arms = is_constant on && list_all is_constant (labels_in arm
 -- a test may go this way: a constant one goes its way alone
 abbrev pub MayGo : Flat → Expr → Bool → Type 0
 MayGo d test way = is_constant test ≡ true → holds d test ≡ way
+
+-- a loop may take another turn, or none: the constant test of a `for` goes its way
+abbrev pub MayTurn : Flat → Statement → Bool → Type 0
+MayTurn d (For at v first test next body) way = MayGo d test way
+MayTurn d s way = Unit {0}
 
 -- a loop whose number of turns no text tells: it takes any number of them, or none
 pub record IsFreeLoop (d : Flat) (s body : Statement) : Type 0 where
@@ -45,8 +50,8 @@ pub data Steps (d : Flat) (marks : List ℕ) : List Work → List Work → Type 
   goes_on_for : {s body : Statement} {k : List Work} → body_of s ≡ Some body → IsEndlessFor d s → Steps d marks (Do s ∷ k) (Do body ∷ Do s ∷ k)
   goes_on_while : {s body : Statement} {k : List Work} → body_of s ≡ Some body → IsEndlessWhile d s → Steps d marks (Do s ∷ k) (Do body ∷ Do s ∷ k)
   -- any other loop but a `forever`, whose steps are quiet
-  takes_none : {s body : Statement} {k : List Work} → IsFreeLoop d s body → quiet_step (Do s ∷ k) ≡ None → Steps d marks (Do s ∷ k) k
-  takes_one : {s body : Statement} {k : List Work} → IsFreeLoop d s body → quiet_step (Do s ∷ k) ≡ None → Steps d marks (Do s ∷ k) (Do body ∷ Do s ∷ k)
+  takes_none : {s body : Statement} {k : List Work} → IsFreeLoop d s body → MayTurn d s false → quiet_step (Do s ∷ k) ≡ None → Steps d marks (Do s ∷ k) k
+  takes_one : {s body : Statement} {k : List Work} → IsFreeLoop d s body → MayTurn d s true → quiet_step (Do s ∷ k) ≡ None → Steps d marks (Do s ∷ k) (Do body ∷ Do s ∷ k)
   enables : {at : Place} {t : ℕ} {ins : List Expr} {outs : List Lvalue} {task : FlatTask} {k : List Work} →
       slice_get d.tasks t ≡ Some task → Steps d marks (Do (Enable at t ins outs) ∷ k) (Do task.body ∷ Return at task.mark [] ∷ k)
   returns : {at : Place} {m : ℕ} {outs : List (ℕ × Lvalue)} {k : List Work} → Steps d marks (Return at m outs ∷ k) k

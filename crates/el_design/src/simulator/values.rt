@@ -123,7 +123,7 @@ pub fn value(alloc: Global, scene: &Scene, e: &TExpr, left: u64) -> Result<Bits,
 }
 
 #[cycle(value)]
-fn index_of(alloc: Global, scene: &Scene, e: &TExpr, left: u64) -> Result<i128, Trouble>
+pub fn index_of(alloc: Global, scene: &Scene, e: &TExpr, left: u64) -> Result<i128, Trouble>
     ensures { IfOk result (λ x. x ≡ integer_of (spec.value (flat_seen scene.now) (scene_seen scene.now) (expr_of e.now)) e.now.signed) }
 {
     Ok(integer(value(alloc, scene, e, left)?, e.signed))
@@ -231,7 +231,7 @@ fn concat(alloc: Global, scene: &Scene, parts: &[TExpr], left: u64) -> Result<Bi
     concatenation(values.as_slice())
 }
 
-fn less(a: i128, b: u32) -> Result<i128, Trouble>
+pub fn less(a: i128, b: u32) -> Result<i128, Trouble>
     ensures { IfOk result (λ x. x ≡ a -ℤ pos b) }
 {
     a.checked_sub(b as i128).ok_or(Trouble::Unsound)
