@@ -137,7 +137,7 @@ assigned_host h (r ∷ f ∷ ds) fits =
 -- one for each port
 pub drives_fit : (n : Parts) → IsNetlist n → length n.drives ≡ 1 + length n.outputs + length (flat_map host_port_names n.hosts)
 drives_fit n is =
-    let same : length n.drives ≡ length (port_widths n) = simp length-map at (ap length is.shell.drives) in
+    let same : length n.drives ≡ length (port_widths n) = simp length-map at (ap length is.shell.connected.drives) in
     let outs : length (map (λ o. o.width) n.outputs) ≡ length n.outputs = simp length-map in
     let ports : length (port_widths n) ≡ suc (length (map (λ o. o.width) n.outputs ++ flat_map host_port_widths n.hosts)) = refl in
     omega (arith, same, outs, ports, length-append (map (λ o. o.width) n.outputs) (flat_map host_port_widths n.hosts), all_fit n.hosts)

@@ -10,6 +10,8 @@ mod forms;
 mod head;
 mod outputs;
 mod pen;
+#[cfg(test)]
+mod tests;
 mod text;
 mod ticks;
 mod words;
