@@ -2,6 +2,7 @@
 #![tactic(auto)]
 
 mod host;
+mod identifiers;
 mod memory;
 mod names;
 mod outside;
@@ -9,6 +10,7 @@ mod refusals;
 mod reserved;
 
 pub use host::{HostFiles, HostSink, Stream};
+pub use identifiers::{begins_word, is_identifier, is_in_word, is_word};
 pub use memory::{MemFiles, MemSink};
 pub use names::{Name, Words};
 pub use outside::{Files, Load, Sink, Wrote};

@@ -102,7 +102,7 @@ sar_of a n = vector a.width (shifted_bit a n)
 abbrev pub concat_of : Word → Word → Word
 concat_of a b = word (a.width + b.width) (a.value * 2 ^ b.width + b.value)
 
--- a brought to another width: longer by its sign bit or by zeros, or cut to its low bits (IEEE 1364-2005, 5.5.2 and 5.5.3)
+-- a brought to another width: longer by its sign bit or by zeros, or cut to its low bits (IEEE 1364-2005, 5.5.2, 5.5.3 and 5.6)
 abbrev pub extend_of : Word → ℕ → Bool → Word
 extend_of a w signed = vector w (extended_bit a signed)
 

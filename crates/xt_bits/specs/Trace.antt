@@ -8,7 +8,7 @@ pub data Call : Type 0 where
   Unknown : Call
 
 -- how an edge ended: after so many ticks of the free clock with these values on the output pins, in the order of the pins;
--- or with a call that has no reply; or with a design that waits for nothing. This is this project's own.
+-- or starved, where nothing goes on and some call has no reply; or stalled, where a design neither ends the edge nor calls. This is this project's own.
 pub data Ending : Type 0 where
   Rested : ℕ → List Word → Ending
   Starved : Ending

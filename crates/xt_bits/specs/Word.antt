@@ -16,11 +16,11 @@ IsKept w n = (1 ≤ w) × (w ≤ MAX_WIDTH) × (n < 2 ^ w)
 abbrev pub word : ℕ → ℕ → Word
 word w n = record { width = w; value = n % 2 ^ w }
 
--- an integer kept to a width: modulo 2 to the power of the width, so a negative one in two's complement (IEEE 1364-2005, 5.1.6)
+-- an integer kept to a width: modulo 2 to the power of the width, so a negative one in two's complement (IEEE 1364-2005, 4.3.1, 5.1.6)
 abbrev pub int_word : ℕ → ℤ → Word
 int_word w z = record { width = w; value = unsigned_abs (int_rem_euclid z (pos (2 ^ w))) }
 
--- the one bit of a comparison or a reduction: 1 for true, 0 for false (IEEE 1364-2005, 5.1.7)
+-- the one bit of a comparison or a reduction: 1 for true, 0 for false (IEEE 1364-2005, 5.1.7, 5.1.8, 5.1.11)
 abbrev pub truth : Bool → Word
 truth b = word 1 (if b then 1 else 0)
 
