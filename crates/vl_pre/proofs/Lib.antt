@@ -10,3 +10,13 @@ pub mod NameLemmas
 pub mod GivesLemmas
 pub mod DefineLemmas
 pub mod TableLemmas
+pub mod CutLemmas
+pub mod ArgumentLemmas
+pub mod FormalLemmas
+pub mod ExpandLemmas
+pub mod AsciiLemmas
+pub mod FileLemmas
+pub mod InputLemmas
+pub mod SourceLemmas
+pub mod GrowLemmas
+pub mod TurnLemmas

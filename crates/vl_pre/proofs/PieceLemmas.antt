@@ -4,10 +4,10 @@ use Rattle.std.proofs.lemmas.List.{drop_more, drop-drop}
 use Rattle.std.proofs.lemmas.Bool.{false≢true}
 use Rattle.std.specs.List.{prefix_len}
 use Rattle.std.specs.Prelude.{slice_range, slice_index}
-use Rattle.vl_pre.specs.Signs.{is_letter, is_word_byte}
+use Rattle.xt_base.specs.Identifiers.{begins_word, is_in_word}
 use Rattle.vl_pre.specs.Clean.{begins}
 use Rattle.vl_pre.specs.Text.{line_after}
-use Rattle.vl_pre.specs.Pieces.{Piece, pieces_from, pieces_of, kind_at, further, end_at, begins_word, is_inside, is_closed}
+use Rattle.vl_pre.specs.Pieces.{Piece, pieces_from, pieces_of, kind_at, further, end_at, is_at_word, is_inside, is_closed}
 use Rattle.vl_pre.specs.declared.pieces.Kind.TheVariants.{Word, Backquote, Identifier, Quoted, Single}
 
 -- skipped bytes are dropped
@@ -39,16 +39,16 @@ further_within byte bytes = first (eqb byte 96) where
   quote t e false = omega arith
 
   letter : (l : Bool) → further (cond l Identifier (cond (eqb byte 34 && is_closed bytes) Quoted (Single byte))) bytes ≤ length bytes
-  letter true = prefix_len-le is_word_byte bytes
+  letter true = prefix_len-le is_in_word bytes
   letter false = quote (is_closed bytes) refl (eqb byte 34)
 
   word : (w : Bool) → further (cond w Word Backquote) bytes ≤ length bytes
-  word true = prefix_len-le is_word_byte bytes
+  word true = prefix_len-le is_in_word bytes
   word false = omega arith
 
-  first : (t : Bool) → further (cond t (cond (begins_word bytes) Word Backquote) (cond (is_letter byte) Identifier (cond (eqb byte 34 && is_closed bytes) Quoted (Single byte)))) bytes ≤ length bytes
-  first true = word (begins_word bytes)
-  first false = letter (is_letter byte)
+  first : (t : Bool) → further (cond t (cond (is_at_word bytes) Word Backquote) (cond (begins_word byte) Identifier (cond (eqb byte 34 && is_closed bytes) Quoted (Single byte)))) bytes ≤ length bytes
+  first true = word (is_at_word bytes)
+  first false = letter (begins_word byte)
 
 -- the pieces at a place are the one that begins there, and those from its end on
 pub first_piece : (text : List ℕ) (at line : ℕ) → at < length text

@@ -1,5 +1,6 @@
 -- The expansion of a source: its files are loaded, cleaned and read from left to right. The first refusal or miss ends it. Limits and places are this project's own.
-use Rattle.std.specs.Prelude.{ℕ, zero, suc, ◌+◌, ◌-◌, ◌||◌, true, List, [], ◌∷◌, ◌++◌, length, Option, Some, None, Result, Ok, Err, is_some, bytes_eq, codes, nat_lt, nat_le, if◌then◌else◌}
+use Rattle.std.specs.Prelude.{ℕ, zero, suc, ◌+◌, ◌-◌, Bool, true, List, [], ◌∷◌, ◌++◌, length, Option, Some, None, Result, Ok, Err, is_some, bytes_eq, codes, nat_lt, nat_le, if◌then◌else◌}
+use Rattle.std.specs.List.{list_any}
 use Rattle.xt_base.specs.Outside.{Held, bytes_of, max_file}
 use Rattle.vl_pre.specs.Text.{Expanded, with_stretch, with_byte}
 use Rattle.vl_pre.specs.Clean.{clean_file}
@@ -26,78 +27,94 @@ pub record Reading : Type 0 where
 abbrev pub stretch_of : Reading → ℕ
 stretch_of reading = length reading.text.names - 1
 
+-- the net types that may be the default (IEEE 1364-2005, 19.2, of which this project takes two)
+unfoldable pub net_types : List (List ℕ)
+net_types = codes "wire" ∷ codes "none" ∷ []
+
+unfoldable pub is_nettype : List ℕ → Bool
+is_nettype name = list_any (λ listed. bytes_eq listed name) net_types
+
 -- bytes come to the text, all with one place
 abbrev pub added : Expanded → ℕ → List ℕ → Expanded
 added text line [] = text
 added text line (byte ∷ bytes) = added (with_byte text byte line) line bytes
 
--- what a piece comes to: how many pieces behind it belong to it, and the groups and what is read after it
-pub record Turn : Type 0 where
+-- what a piece takes: how many pieces behind it belong to it, and what is read after it
+pub record Taken : Type 0 where
   pub size : ℕ
-  pub groups : List Group
   pub reading : Reading
 
--- what a piece of a file does: a turn of the reading, or an include, whose name is told and how many pieces it takes
+-- a turn of a file: what a piece takes, and the groups after it
+pub record Turn : Type 0 where
+  pub taken : Taken
+  pub groups : List Group
+
+-- what a piece of a file does: a turn, or an include, whose name is told and how many pieces it takes
 pub data Step : Type 0 where
   Turns : Turn → Step
   Includes : Operand → Step
 
--- a turn that changes nothing but what is told
-abbrev pub turns : ℕ → List Group → Reading → Result Step Break
-turns size groups reading = Ok (Turns (record { size = size; groups = groups; reading = reading }))
-
 -- a piece that is no word behind a backquote stays, if there is room in the text
-abbrev pub kept_piece : Piece → List Group → Reading → Result Step Break
-kept_piece piece groups reading =
+abbrev pub kept_piece : Piece → Reading → Result Taken Break
+kept_piece piece reading =
     if nat_lt max_text (length reading.text.bytes + length piece.bytes) then breaks 80 piece.line
-    else turns 0 groups (record reading { text = added reading.text piece.line piece.bytes })
+    else Ok (record { size = 0; reading = record reading { text = added reading.text piece.line piece.bytes } })
 
 -- a use stands in the file itself and in no other
 abbrev pub setting_of : ℕ → Reading → Setting
-setting_of line reading = record { macros = reading.macros; forbidden = []; own = true; outermost = line; room = max_text - length reading.text.bytes }
+setting_of line reading = record { macros = reading.macros; forbidden = []; context = record { own = true; outermost = line; room = max_text - length reading.text.bytes } }
 
 -- the text of a use comes to the text, with the place of its backquote
-abbrev pub use_piece : Piece → List Piece → List Group → Reading → Result Step Break
-use_piece piece pieces groups reading =
+abbrev pub use_piece : Piece → List Piece → Reading → Result Taken Break
+use_piece piece pieces reading =
     use_of (nested max_nesting) (setting_of piece.line reading) piece pieces (record { bytes = []; uses = reading.uses }) >>= λ whole.
-    turns whole.size groups (record reading { uses = whole.done.uses; text = added reading.text piece.line whole.done.bytes })
+    Ok (record { size = whole.size; reading = record reading { uses = whole.done.uses; text = added reading.text piece.line whole.done.bytes } })
 
 -- `define: the macro stands for its text from here
-abbrev pub define_piece : Piece → List Piece → List Group → Reading → Result Step Break
-define_piece piece pieces groups reading =
+abbrev pub define_piece : Piece → List Piece → Reading → Result Taken Break
+define_piece piece pieces reading =
     definition piece.line (line_from 0 pieces).pieces >>= λ d.
-    turns (line_from 0 pieces).size groups (record reading { macros = with_macro reading.macros d.name (Some d.meaning) })
+    Ok (record { size = (line_from 0 pieces).size; reading = record reading { macros = with_macro reading.macros d.name (Some d.meaning) } })
 
 -- `undef: the name is no macro from here
-abbrev pub undef_piece : Piece → List Piece → List Group → Reading → Result Step Break
-undef_piece piece pieces groups reading =
+abbrev pub undef_piece : Piece → List Piece → Reading → Result Taken Break
+undef_piece piece pieces reading =
     operand_at piece.line (name_behind pieces) >>= λ name.
-    turns name.size groups (record reading { macros = with_macro reading.macros name.text None })
+    Ok (record { size = name.size; reading = record reading { macros = with_macro reading.macros name.text None } })
+
+-- `default_nettype: wire or none, and dropped
+abbrev pub nettype_piece : Piece → List Piece → Reading → Result Taken Break
+nettype_piece piece pieces reading =
+    operand_at piece.line (name_behind pieces) >>= λ name.
+    if is_nettype name.text then Ok (record { size = name.size; reading = reading }) else breaks 11 piece.line
+
+-- a turn that leaves the groups as they are
+abbrev pub in_groups : List Group → Result Taken Break → Result Step Break
+in_groups groups (Ok taken) = Ok (Turns (record { taken = taken; groups = groups }))
+in_groups groups (Err broken) = Err broken
+
+-- a turn that takes some pieces and changes nothing
+abbrev pub passes : ℕ → List Group → Reading → Result Step Break
+passes size groups reading = in_groups groups (Ok (record { size = size; reading = reading }))
+
+-- a conditional directive changes the groups
+abbrev pub conditional_piece : Directive → Piece → List Piece → List Group → Reading → Result Step Break
+conditional_piece directive piece pieces groups reading =
+    turned directive (λ name. is_some (reading.macros name)) (stretch_of reading) piece.line pieces groups >>= λ turn.
+    passes turn.size turn.groups reading
 
 -- `include: a name stands behind it
 abbrev pub include_piece : Piece → List Piece → Result Step Break
 include_piece piece pieces = operand_at piece.line (string_behind pieces) >>= λ name. Ok (Includes name)
 
--- `default_nettype: wire or none, and dropped
-abbrev pub nettype_piece : Piece → List Piece → List Group → Reading → Result Step Break
-nettype_piece piece pieces groups reading =
-    operand_at piece.line (name_behind pieces) >>= λ name.
-    if bytes_eq name.text (codes "wire") || bytes_eq name.text (codes "none") then turns name.size groups reading else breaks 11 piece.line
-
--- a conditional directive is read in each group
-abbrev pub conditional_piece : Directive → Piece → List Piece → List Group → Reading → Result Step Break
-conditional_piece directive piece pieces groups reading =
-    turned directive (λ name. is_some (reading.macros name)) (stretch_of reading) piece.line pieces groups >>= λ turn.
-    turns turn.size turn.groups reading
-
--- any other directive, where its group is read
+-- a directive where its group is read
 abbrev pub directive_piece : Directive → Piece → List Piece → List Group → Reading → Result Step Break
-directive_piece directives.Define piece pieces groups reading = define_piece piece pieces groups reading
-directive_piece directives.Undef piece pieces groups reading = undef_piece piece pieces groups reading
+directive_piece directives.Define piece pieces groups reading = in_groups groups (define_piece piece pieces reading)
+directive_piece directives.Undef piece pieces groups reading = in_groups groups (undef_piece piece pieces reading)
 directive_piece directives.Include piece pieces groups reading = include_piece piece pieces
-directive_piece directives.Timescale piece pieces groups reading = turns (rest_of_line pieces) groups reading
-directive_piece directives.DefaultNettype piece pieces groups reading = nettype_piece piece pieces groups reading
-directive_piece directives.Bare piece pieces groups reading = turns 0 groups reading
+directive_piece directives.Timescale piece pieces groups reading = passes (rest_of_line pieces) groups reading
+directive_piece directives.DefaultNettype piece pieces groups reading = in_groups groups (nettype_piece piece pieces reading)
+directive_piece directives.Bare piece pieces groups reading = passes 0 groups reading
 directive_piece directives.Ifdef piece pieces groups reading = conditional_piece directives.Ifdef piece pieces groups reading
 directive_piece directives.Ifndef piece pieces groups reading = conditional_piece directives.Ifndef piece pieces groups reading
 directive_piece directives.Elsif piece pieces groups reading = conditional_piece directives.Elsif piece pieces groups reading
@@ -106,7 +123,7 @@ directive_piece directives.Endif piece pieces groups reading = conditional_piece
 
 -- a word behind a backquote where its group is read: a directive or a use
 abbrev pub word_piece : Option Directive → Piece → List Piece → List Group → Reading → Result Step Break
-word_piece None piece pieces groups reading = use_piece piece pieces groups reading
+word_piece None piece pieces groups reading = in_groups groups (use_piece piece pieces reading)
 word_piece (Some directive) piece pieces groups reading = directive_piece directive piece pieces groups reading
 
 -- what a piece comes to where its group is read
@@ -115,28 +132,25 @@ read_piece piece pieces groups reading = by piece.kind where
   by : Kind → Result Step Break
   by Word = word_piece (directive_of (word_of piece)) piece pieces groups reading
   by Backquote = breaks 11 piece.line
-  by Identifier = kept_piece piece groups reading
-  by Quoted = kept_piece piece groups reading
-  by (Single byte) = kept_piece piece groups reading
+  by Identifier = in_groups groups (kept_piece piece reading)
+  by Quoted = in_groups groups (kept_piece piece reading)
+  by (Single byte) = in_groups groups (kept_piece piece reading)
 
--- the conditional directive that a piece is
-abbrev pub conditional_of : Option Directive → Option Directive
-conditional_of None = None
-conditional_of (Some directive) = if is_conditional directive then Some directive else None
-
--- what isn't read is passed over but for its conditional directives
+-- a word behind a backquote where its group isn't read: passed over but for a conditional directive
 abbrev pub passed_word : Option Directive → Piece → List Piece → List Group → Reading → Result Step Break
-passed_word None piece pieces groups reading = turns 0 groups reading
-passed_word (Some directive) piece pieces groups reading = conditional_piece directive piece pieces groups reading
+passed_word None piece pieces groups reading = passes 0 groups reading
+passed_word (Some directive) piece pieces groups reading =
+    if is_conditional directive then conditional_piece directive piece pieces groups reading else passes 0 groups reading
 
+-- what a piece comes to where its group isn't read
 abbrev pub passed_piece : Piece → List Piece → List Group → Reading → Result Step Break
 passed_piece piece pieces groups reading = by piece.kind where
   by : Kind → Result Step Break
-  by Word = passed_word (conditional_of (directive_of (word_of piece))) piece pieces groups reading
-  by Backquote = turns 0 groups reading
-  by Identifier = turns 0 groups reading
-  by Quoted = turns 0 groups reading
-  by (Single byte) = turns 0 groups reading
+  by Word = passed_word (directive_of (word_of piece)) piece pieces groups reading
+  by Backquote = passes 0 groups reading
+  by Identifier = passes 0 groups reading
+  by Quoted = passes 0 groups reading
+  by (Single byte) = passes 0 groups reading
 
 -- what a piece of a file comes to
 abbrev pub file_piece : Piece → List Piece → List Group → Reading → Result Step Break
@@ -181,7 +195,7 @@ abbrev pub step_turn : Include → List ℕ → ℕ → List Group → Reading �
 step_turn include file line groups reading (Turns turn) = Ok turn
 step_turn include file line groups reading (Includes name) =
     include name.text (spot_of file line reading) reading >>= λ read.
-    Ok (record { size = name.size; groups = groups; reading = record read { text = with_stretch read.text file } })
+    Ok (record { taken = record { size = name.size; reading = record read { text = with_stretch read.text file } }; groups = groups })
 
 -- a file ends with no group open; else the innermost is broken where it opened
 abbrev pub file_end : List ℕ → List Group → Reading → Result Reading Stop
@@ -195,7 +209,7 @@ file_from include file (suc skip) (piece ∷ pieces) groups reading = file_from 
 file_from include file zero (piece ∷ pieces) groups reading =
     in_file file reading (file_piece piece pieces groups reading) >>= λ step.
     step_turn include file piece.line groups reading step >>= λ turn.
-    file_from include file turn.size pieces turn.groups turn.reading
+    file_from include file turn.taken.size pieces turn.groups turn.taken.reading
 
 -- a file whose bytes were loaded, and into which the text has passed: all of it is cleaned, and then it is read
 abbrev pub file_text : Include → List ℕ → List ℕ → Reading → Result Reading Stop
@@ -209,14 +223,14 @@ found include file spot (Some bytes) reading =
     else file_text include file bytes (record reading { text = with_stretch reading.text file })
 
 -- A file that n more may stand in, itself counted: includes that nest too deep and a load too many are broken before the load.
-abbrev pub file_expansion : Held → ℕ → Include
+unfoldable pub file_expansion : Held → ℕ → Include
 file_expansion held zero file spot reading = broken_at spot 11 reading
 file_expansion held (suc n) file spot reading =
     if nat_le max_loads (length reading.loads) then broken_at spot 80 reading
     else found (file_expansion held n) file spot (bytes_of held file) (record reading { loads = reading.loads ++ file ∷ [] })
 
 -- the expansion of the source in the named file, with macros that are defined before it
-abbrev pub source_expansion : Held → List ℕ → List (List ℕ × List ℕ) → Result Reading Stop
+unfoldable pub source_expansion : Held → List ℕ → List (List ℕ × List ℕ) → Result Reading Stop
 source_expansion held file defines =
     file_expansion held (suc max_includes) file (record { stretch = 0; line = 0; name = file })
     (record { macros = with_defines no_macros defines; uses = 0; loads = []; text = record { bytes = []; places = []; names = [] } })

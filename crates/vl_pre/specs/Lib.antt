@@ -17,3 +17,9 @@ pub mod Lines
 pub mod MacroViews
 pub mod Tables
 pub mod Turning
+pub mod Expanding
+pub mod Arguing
+pub mod Readings
+pub mod Faults
+pub mod Inputs
+pub mod Sources

@@ -138,11 +138,14 @@ argument_of [] arguments name = None
 argument_of (formal ∷ formals) [] name = None
 argument_of (formal ∷ formals) (argument ∷ arguments) name = if bytes_eq formal name then Some argument else argument_of formals arguments name
 
--- a text in which each identifier that is a formal stands for its argument; strings and words behind backquotes stay
+-- what stands for a piece: its argument, if it is an identifier that is a formal; strings and words behind backquotes stay
+abbrev pub piece_text : List (List ℕ) → List (List ℕ) → Piece → List ℕ
+piece_text formals arguments piece = if is_identifier piece then unwrap_or (argument_of formals arguments piece.bytes) piece.bytes else piece.bytes
+
+-- a text with its arguments
 abbrev pub substituted : List (List ℕ) → List (List ℕ) → List Piece → List ℕ
 substituted formals arguments [] = []
-substituted formals arguments (piece ∷ pieces) =
-    (if is_identifier piece then unwrap_or (argument_of formals arguments piece.bytes) piece.bytes else piece.bytes) ++ substituted formals arguments pieces
+substituted formals arguments (piece ∷ pieces) = piece_text formals arguments piece ++ substituted formals arguments pieces
 
 -- the text of a use with its arguments
 abbrev pub text_of : Meaning → List (List ℕ) → List ℕ

@@ -1,7 +1,8 @@
 -- The pieces of a text. All of it is this project's own, but for what an identifier and a string are.
 use Rattle.std.specs.Prelude.{ℕ, zero, suc, ◌+◌, ◌-◌, ◌==◌, ◌&&◌, ◌||◌, not, Bool, true, false, List, [], ◌∷◌, ◌++◌, length, take, drop, slice_index, if◌then◌else◌}
 use Rattle.std.specs.List.{prefix_len}
-use Rattle.vl_pre.specs.Signs.{is_letter, is_word_byte, is_blank, is_line_feed}
+use Rattle.xt_base.specs.Identifiers.{begins_word, is_in_word}
+use Rattle.vl_pre.specs.Signs.{is_blank, is_line_feed}
 use Rattle.vl_pre.specs.Clean.{begins}
 use Rattle.vl_pre.specs.Text.{line_after}
 use Rattle.vl_pre.specs.declared.pieces.Kind.{Kind}
@@ -14,9 +15,9 @@ pub record Piece : Type 0 where
   pub bytes : List ℕ
 
 -- whether an identifier begins here (IEEE 1364-2005, 3.7)
-abbrev pub begins_word : List ℕ → Bool
-begins_word [] = false
-begins_word (byte ∷ bytes) = is_letter byte
+abbrev pub is_at_word : List ℕ → Bool
+is_at_word [] = false
+is_at_word (byte ∷ bytes) = begins_word byte
 
 -- what stands in a string (IEEE 1364-2005, 3.6): anything but its end, on its line
 abbrev pub is_inside : ℕ → Bool
@@ -29,16 +30,16 @@ is_closed bytes = begins 34 (drop (prefix_len is_inside bytes) bytes)
 -- what a piece is that begins with a byte
 abbrev pub kind_at : ℕ → List ℕ → Kind
 kind_at byte bytes =
-    if byte == 96 then (if begins_word bytes then Word else Backquote)
-    else if is_letter byte then Identifier
+    if byte == 96 then (if is_at_word bytes then Word else Backquote)
+    else if begins_word byte then Identifier
     else if byte == 34 && is_closed bytes then Quoted
     else Single byte
 
 -- how many bytes belong to such a piece behind its first: an identifier is as long as it can be
 abbrev pub further : Kind → List ℕ → ℕ
-further Word bytes = prefix_len is_word_byte bytes
+further Word bytes = prefix_len is_in_word bytes
 further Backquote bytes = 0
-further Identifier bytes = prefix_len is_word_byte bytes
+further Identifier bytes = prefix_len is_in_word bytes
 further Quoted bytes = prefix_len is_inside bytes + 1
 further (Single byte) bytes = 0
 

@@ -12,11 +12,3 @@ is_blank byte = byte == 9 || byte == 12 || byte == 13 || byte == 32
 -- what may stand outside comments: this project's own
 abbrev pub is_allowed : ℕ → Bool
 is_allowed byte = byte == 9 || byte == 10 || byte == 12 || byte == 13 || (nat_le 32 byte && nat_le byte 126)
-
--- what an identifier begins with (IEEE 1364-2005, 3.7)
-abbrev pub is_letter : ℕ → Bool
-is_letter byte = (nat_le 65 byte && nat_le byte 90) || (nat_le 97 byte && nat_le byte 122) || byte == 95
-
--- what an identifier goes on with (IEEE 1364-2005, 3.7)
-abbrev pub is_word_byte : ℕ → Bool
-is_word_byte byte = is_letter byte || (nat_le 48 byte && nat_le byte 57) || byte == 36

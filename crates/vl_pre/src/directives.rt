@@ -62,7 +62,7 @@ pub(crate) fn directive_of(name: &[u8]) -> Option<Directive>
 }
 
 /// Whether a name is a directive's.
-pub(crate) fn is_directive(name: &[u8]) -> bool
+pub fn is_directive(name: &[u8]) -> bool
     ensures { result ≡ is_directive name.now }
 {
     directive_of(name).is_some()

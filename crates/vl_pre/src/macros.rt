@@ -43,7 +43,7 @@ pub(crate) fn is_among(names: &[Vec<u8>], name: &[u8]) -> bool
 }
 
 /// Adds a copy of a name.
-fn push_name(names: &mut Vec<Vec<u8>>, name: &[u8]) -> Result<(), Stopped>
+pub(crate) fn push_name(names: &mut Vec<Vec<u8>>, name: &[u8]) -> Result<(), Stopped>
     ensures ok { OnOk result (map (λ n. n.items) names.new.items ≡ map (λ n. n.items) names.old.items ++ name.now ∷ []) }
     ensures err { IfErr result (λ stop. stop ≡ Stopped.Memory) }
 {
@@ -96,6 +96,7 @@ fn list_in_line(
 ) -> Result<Vec<Vec<u8>>, Stopped>
     requires { IsWithin text.now cursor.old }
     ensures within { IsWithin text.now cursor.new }
+    ensures forward { cursor.old.at ≤ cursor.new.at }
     ensures goes { GoesOn (left text.now cursor.old) (left text.now cursor.new) }
     ensures exact { Gives (λ names. record { formals = Some (map (λ n. n.items) names.items); rest = in_line text.now cursor.new }) result
         (list_from line (record { state = ListState.Awaits; names = [] }) (in_line text.now cursor.old)) }
@@ -120,6 +121,7 @@ fn heading_in_line(
 ) -> Result<Option<Vec<Vec<u8>>>, Stopped>
     requires { IsWithin text.now cursor.old }
     ensures within { IsWithin text.now cursor.new }
+    ensures forward { cursor.old.at ≤ cursor.new.at }
     ensures goes { GoesOn (left text.now cursor.old) (left text.now cursor.new) }
     ensures exact { Gives (λ formals. record { formals = formals_seen formals; rest = in_line text.now cursor.new }) result
         (heading line (in_line text.now cursor.old)) }
@@ -141,6 +143,7 @@ fn kept_behind(piece: &PieceRef, kept: usize, len: usize) -> usize
 fn text_in_line(alloc: Global, text: &[u8], cursor: &mut Cursor) -> Result<Vec<u8>, Stopped>
     requires { IsWithin text.now cursor.old }
     ensures within { IsWithin text.now cursor.new }
+    ensures forward { cursor.old.at ≤ cursor.new.at }
     ensures goes { GoesOn (left text.now cursor.old) (left text.now cursor.new) }
     ensures exact { Gives (λ bytes. bytes.items) result (macro_text (in_line text.now cursor.old)) }
     ensures ended { OnOk result (in_line text.now cursor.new ≡ []) }
@@ -166,6 +169,7 @@ fn text_in_line(alloc: Global, text: &[u8], cursor: &mut Cursor) -> Result<Vec<u
 fn name_of<'a>(text: &'a [u8], cursor: &mut Cursor, line: u32) -> Result<&'a [u8], Stopped>
     requires { IsWithin text.now cursor.old }
     ensures within { IsWithin text.now cursor.new }
+    ensures forward { cursor.old.at ≤ cursor.new.at }
     ensures goes { GoesOn (left text.now cursor.old) (left text.now cursor.new) }
     ensures exact { MatchResult result
         (λ name. IsNamed (macro_name line (name_behind (in_line text.now cursor.old))) name.now (in_line text.now cursor.old) (in_line text.now cursor.new))
@@ -187,6 +191,7 @@ pub(crate) fn define(
     requires { IsWithin text.now cursor.old }
     ensures within { IsWithin text.now cursor.new }
     ensures exact { Gives defined_seen result (definition line (in_line text.now cursor.old)) }
+    ensures forward { cursor.old.at ≤ cursor.new.at }
     ensures left { OnOk result (left text.now cursor.new ≡ drop (line_from 0 (left text.now cursor.old)).size (left text.now cursor.old)) }
 {
     let name = name_of(text, cursor, line)?;

@@ -1,11 +1,13 @@
 //! The pieces of a text: words behind backquotes, identifiers, strings and single bytes.
 ghost use Rattle.std.specs.Prelude.{◌≡◌, ◌<◌, ◌≤◌, ◌+◌, ◌-◌, ◌∷◌, ◌^◌, [], ℕ, if◌then◌else◌, Some, None, IfSome, IfNone, length, drop, take, slice_range, slice_index};
 ghost use Rattle.std.specs.List.{prefix_len};
-ghost use Rattle.vl_pre.specs.Signs.{is_blank, is_letter, is_word_byte};
-ghost use Rattle.vl_pre.specs.Pieces.{begins_word, is_inside, is_closed, kind_at, further, end_at, is_byte, is_blank_piece, is_space, is_identifier, is_quoted, word_of, quoted_of};
+ghost use Rattle.xt_base.specs.Identifiers.{begins_word, is_in_word};
+ghost use Rattle.vl_pre.specs.Signs.{is_blank};
+ghost use Rattle.vl_pre.specs.Pieces.{is_at_word, is_inside, is_closed, kind_at, further, end_at, is_byte, is_blank_piece, is_space, is_identifier, is_quoted, word_of, quoted_of};
 ghost use Rattle.vl_pre.specs.Cursors.{left, seen, passes, IsWithin};
 
 use crate::text::next_line;
+use xt_base::{begins_word, is_in_word};
 
 /// What a piece of a text is.
 #[derive(Clone, Copy, Debug, PartialEq, Eq)]
@@ -26,20 +28,6 @@ pub(crate) fn is_blank(byte: u8) -> bool
     byte == 9 || byte == 12 || byte == 13 || byte == 32
 }
 
-/// Whether an identifier may begin with a byte.
-pub(crate) fn is_letter(byte: u8) -> bool
-    ensures { result ≡ is_letter byte }
-{
-    byte.is_ascii_uppercase() || byte.is_ascii_lowercase() || byte == b'_'
-}
-
-/// Whether an identifier may go on with a byte.
-pub(crate) fn is_word_byte(byte: u8) -> bool
-    ensures { result ≡ is_word_byte byte }
-{
-    is_letter(byte) || byte.is_ascii_digit() || byte == b'$'
-}
-
 /// Whether a byte stands in a string.
 fn is_inside(byte: u8) -> bool
     ensures { result ≡ is_inside byte }
@@ -49,10 +37,10 @@ fn is_inside(byte: u8) -> bool
 
 /// How long the identifier goes on.
 fn word_length(bytes: &[u8]) -> usize
-    ensures length { result ≡ prefix_len is_word_byte bytes.now }
+    ensures length { result ≡ prefix_len is_in_word bytes.now }
     ensures within { result ≤ length bytes.now }
 {
-    bytes.iter().take_while(|byte| is_word_byte(**byte)).count()
+    bytes.iter().take_while(|byte| is_in_word(**byte)).count()
 }
 
 /// How long the string goes on.
@@ -64,11 +52,11 @@ fn inside_length(bytes: &[u8]) -> usize
 }
 
 /// Whether an identifier begins here.
-fn begins_word(bytes: &[u8]) -> bool
-    ensures { result ≡ begins_word bytes.now }
+fn is_at_word(bytes: &[u8]) -> bool
+    ensures { result ≡ is_at_word bytes.now }
 {
     match bytes.first() {
-        Some(byte) => is_letter(*byte),
+        Some(byte) => begins_word(*byte),
         None => false,
     }
 }
@@ -90,7 +78,7 @@ fn kind_at(byte: u8, bytes: &[u8]) -> Kind
     if byte == b'`' {
         return kind_of_backquote(bytes);
     }
-    if is_letter(byte) {
+    if begins_word(byte) {
         return Kind::Identifier;
     }
     if byte == b'"' && is_closed(bytes) {
@@ -101,9 +89,9 @@ fn kind_at(byte: u8, bytes: &[u8]) -> Kind
 
 /// What a piece is that begins with a backquote.
 fn kind_of_backquote(bytes: &[u8]) -> Kind
-    ensures { result ≡ (if begins_word bytes.now then Kind.Word else Kind.Backquote) }
+    ensures { result ≡ (if is_at_word bytes.now then Kind.Word else Kind.Backquote) }
 {
-    if begins_word(bytes) {
+    if is_at_word(bytes) {
         Kind::Word
     } else {
         Kind::Backquote
@@ -257,6 +245,7 @@ pub(crate) fn next_piece<'a>(text: &'a [u8], cursor: &mut Cursor) -> Option<Piec
     ensures some { IfSome result (λ piece. left text.now cursor.old ≡ seen piece ∷ left text.now cursor.new) }
     ensures forward { IfSome result (λ piece. cursor.old.at < cursor.new.at) }
     ensures bytes { IfSome result (λ piece. piece.bytes.now ≡ slice_range text.now cursor.old.at cursor.new.at) }
+    ensures line { IfSome result (λ piece. piece.line ≡ cursor.old.line) }
 {
     let Cursor { at, line } = *cursor;
     if at >= text.len() {

@@ -138,6 +138,14 @@ impl Text {
         Ok(())
     }
 
+    /// The stretch that the text is in.
+    pub(crate) fn stretch(&self) -> u32
+        requires { length self.now.names ≤ most }
+        ensures { result ≡ length self.now.names - 1 }
+    {
+        (self.names.len() - 1) as u32
+    }
+
     /// Adds a byte of the last stretch, on a line of its file. Without memory for it the text stays as it was.
     pub(crate) fn push(&mut self, byte: u8, line: u32) -> Result<(), NoMemory>
         requires room { length self.old.bytes < most }

@@ -1,4 +1,4 @@
-use Rattle.std.proofs.Common.{◌≡◌, rules, cond, length, false}
+use Rattle.std.proofs.Common.{◌≡◌, rules, arith, cond, length, false}
 use Rattle.vl_pre.specs.Pieces.{is_space}
 use Rattle.vl_pre.specs.Directives.{is_stray}
 use Rattle.vl_pre.specs.Cursors.{seen}
@@ -17,6 +17,7 @@ loop-piece-preserved c =
     let kept : c.kept_behind-kept.result ≡ cond (is_space (seen c.in-Some.piece)) c.loop-piece.kept (length c.extend_from_slice.new.self.items) = search rules in
     record {
       within = c.in-Some.ensures.within;
+      forward = omega (arith, c.in-Some.ensures.forward);
       goes = goes_further _ _ _ c.loop-piece.invariant.goes c.in-Some.ensures.goes;
       so_far = rw (kept, c.in_ok-extend_from_slice.ensures.items) (text_goes _ _ _ _ _ (seen c.in-Some.piece) c.loop-piece.invariant.so_far c.in-Some.ensures.some stray);
     }
