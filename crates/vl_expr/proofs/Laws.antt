@@ -70,3 +70,11 @@ module _ (ls : List Lexeme) where
       (ap (λ q. q.tree) same, ap (λ q. q.end) same)
   whole_only n at (Err (errors.NoTree k)) g e j w = let r = whole_complete n at j e w in absurd (not_read (sym g ∙ r.is))
   whole_only n at (Err errors.Memory) g e j w = refl
+
+  -- two expressions at one place are one
+  pub one_expr : (n at i j : ℕ) (e f : Expr) → IsWholeExpr ls n at i e → IsWholeExpr ls n at j f → (e ≡ f) × (i ≡ j)
+  one_expr n at i j e f v w =
+      let p = whole_complete n at i e v in
+      let q = whole_complete n at j f w in
+      let same : found e i p.depth ≡ found f j q.depth = ok_one (sym p.is ∙ q.is) in
+      (ap (λ r. r.tree) same, ap (λ r. r.end) same)

@@ -1,4 +1,7 @@
 //! The expressions of the grammar, read from left to right.
+//!
+//! `parse_expr` reads one from the tokens of a text. The functions over `Lexeme`s read from tokens that were told apart once,
+//! by `lexemes`, and have the same contracts; where there is no tree they give the number of the token at which reading stops.
 #![tactic(auto)]
 
 mod classes;
@@ -8,7 +11,11 @@ mod parse;
 mod reader;
 mod words;
 
+pub use classes::{expect, is_at, is_name};
 pub use found::{Found, ParseError};
-pub use parse::{parse_expr, refused};
-pub use reader::expr_at;
+pub use parse::{one_expr, parse_expr, refused};
+pub use reader::{args_at, expr_at, exprs_at, selects_at};
 pub use words::{lexemes, spelling};
+
+#[cfg(test)]
+mod tests;

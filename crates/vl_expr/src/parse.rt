@@ -1,8 +1,9 @@
 //! The expressions of a text's tokens.
-ghost use Rattle.std.specs.Prelude.{◌≡◌, ◌<◌, ◌^◌, ◌-◌, ℕ, length, IfOk, MatchResult};
+ghost use Rattle.std.specs.Prelude.{◌≡◌, ◌<◌, ◌^◌, ◌-◌, ℕ, List, length, IfOk, MatchResult};
 ghost use Rattle.xt_base.specs.declared.refusals.Refusal.{Refusal};
 ghost use Rattle.vl_lex.specs.Tokens.{AreTokens};
 ghost use Rattle.vl_tree.specs.declared.exprs.Expr.{Expr};
+ghost use Rattle.vl_tree.specs.declared.lexemes.Lexeme.{Lexeme};
 ghost use Rattle.vl_tree.specs.Expressions.{IsExpr, IsWholeExpr};
 ghost use Rattle.vl_tree.specs.Lexemes.{lexemes_of};
 ghost use Rattle.vl_expr.specs.Reading.{Gives, whole_of};
@@ -101,3 +102,10 @@ pub fn parse_expr(
 {
     told(alloc, text, tokens, at, depth)
 }
+
+/// At a place of a list of tokens begins at most one expression that ends before one of the tokens
+/// `) ] } , ; : { +: -:`.
+pub fn one_expr()
+    ensures { (ls : List Lexeme) (n at i j : ℕ) (e f : Expr) →
+        IsWholeExpr ls n at i e → IsWholeExpr ls n at j f → (e ≡ f) × (i ≡ j) }
+{}

@@ -262,9 +262,9 @@ fn paren_at(
     closed(lexemes, Lexeme::CloseParen, inner)
 }
 
-/// Expressions in parentheses, or none.
+/// Expressions in parentheses with commas between them, or none, none of them deeper than `depth`.
 #[cycle(expr)]
-fn args_at(
+pub fn args_at(
     alloc: Global,
     lexemes: &[Lexeme],
     depth: u32,
@@ -282,9 +282,9 @@ fn args_at(
     closed(lexemes, Lexeme::CloseParen, all)
 }
 
-/// Expressions with commas between them.
+/// Expressions with commas between them, none of them deeper than `depth`.
 #[cycle(expr)]
-fn exprs_at(
+pub fn exprs_at(
     alloc: Global,
     lexemes: &[Lexeme],
     depth: u32,
@@ -389,9 +389,9 @@ fn concat_at(
     Ok(concat_node(at, parts))
 }
 
-/// The selects behind a name.
+/// The selects behind a name, none of them deeper than `depth`.
 #[cycle(expr)]
-fn selects_at(
+pub fn selects_at(
     alloc: Global,
     lexemes: &[Lexeme],
     depth: u32,

@@ -3,7 +3,8 @@ use Rattle.std.proofs.Common.{◌≡◌, ◌==◌, ℕ, List, [], ◌∷◌, ◌
 use Rattle.std.specs.Char.{is_digit}
 use Rattle.std.proofs.lemmas.Bool.{both_ways}
 use Rattle.std.proofs.lemmas.Bool.Decides.{nat_tests}
-use Rattle.vl_lex.specs.Bytes.{is_blank, begins_word}
+use Rattle.xt_base.specs.Identifiers.{begins_word}
+use Rattle.vl_lex.specs.Bytes.{is_blank}
 use Rattle.vl_lex.specs.Fronts.{IsLongestFront, HasNoFront, HasForm, IsToken, begun_by}
 use Rattle.vl_lex.specs.Operators.{operators, is_operator}
 use Rattle.vl_lex.specs.Spelling.{Spells}

@@ -3,7 +3,8 @@ use Rattle.std.proofs.Common.{◌≡◌, ◌≢◌, ℕ, suc, ◌+◌, ◌<◌, 
 use Rattle.std.specs.List.{AllPass, prefix_len}
 use Rattle.std.proofs.lemmas.List.{get_or_at, drop_more}
 use Rattle.std.proofs.lemmas.List.Folds.{length-prefix_len}
-use Rattle.vl_lex.specs.Bytes.{is_in_word, is_in_string}
+use Rattle.xt_base.specs.Identifiers.{is_in_word}
+use Rattle.vl_lex.specs.Bytes.{is_in_string}
 use Rattle.vl_lex.specs.Fronts.{IsLongestFront, HasNoFront}
 use Rattle.vl_lex.specs.Spelling.{IsRun, IsSystem, IsQuoted}
 use Rattle.vl_lex.proofs.Runs.{longest_from, none_from, passes_front, no_longer_run, run_ends, run_from_all, all_from_run, some_from_run}

@@ -6,7 +6,8 @@ use Rattle.std.proofs.lemmas.Bool.{cases_eq, cases_lt}
 use Rattle.std.proofs.lemmas.List.{drop_more}
 use Rattle.std.proofs.lemmas.List.Sums.{prefix_len-le-length}
 use Rattle.xt_base.specs.Reserved.{is_reserved}
-use Rattle.vl_lex.specs.Bytes.{is_blank, begins_word, is_in_word, is_in_number, is_in_string, is_sign, radix_of}
+use Rattle.xt_base.specs.Identifiers.{begins_word, is_in_word}
+use Rattle.vl_lex.specs.Bytes.{is_blank, is_in_number, is_in_string, is_sign, radix_of}
 use Rattle.vl_lex.specs.Fronts.{HasNoFront, LongestFront, HasForm, begun_by}
 use Rattle.vl_lex.specs.Spelling.{IsWord, AreDigits, IsBaseWithDigits, IsBased, IsQuoted, IsSystem, Spells}
 use Rattle.vl_lex.specs.Tokens.{AreBlanks, IsTokenOf, Reads, BeginsNoToken, AreTokens, FailsAt}

@@ -1,18 +1,10 @@
--- What single bytes are in a token. Letters are those of ASCII.
+-- What single bytes are in a token.
 use Rattle.std.specs.Prelude.{◌==◌, ◌||◌, ℕ, Bool, Option, Some, None, not, if◌then◌else◌}
-use Rattle.std.specs.Char.{is_ascii_alphabetic, is_ascii_alphanumeric, is_digit}
+use Rattle.std.specs.Char.{is_digit}
 
 -- blanks and line feeds (IEEE 1364-2005, 3.2; the carriage return is this project's): tab, line feed, form feed, carriage return, blank
 abbrev pub is_blank : ℕ → Bool
 is_blank b = b == 9 || b == 10 || b == 12 || b == 13 || b == 32
-
--- a letter or `_` begins an identifier (3.7)
-abbrev pub begins_word : ℕ → Bool
-begins_word b = is_ascii_alphabetic b || b == 95
-
--- letters, digits, `_` and `$` go on with it (3.7)
-abbrev pub is_in_word : ℕ → Bool
-is_in_word b = is_ascii_alphanumeric b || b == 95 || b == 36
 
 -- digits and `_` go on with a number (3.5.1)
 abbrev pub is_in_number : ℕ → ℕ → Bool

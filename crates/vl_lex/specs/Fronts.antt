@@ -1,7 +1,7 @@
 -- How a token is found: the first byte tells its form, and the longest front of the form is the token. It is this project's own.
 use Rattle.std.specs.Prelude.{◌<◌, ◌≤◌, ◌==◌, ℕ, List, Option, MatchOption, length, take, if◌then◌else◌}
 use Rattle.std.specs.Char.{is_digit}
-use Rattle.vl_lex.specs.Bytes.{begins_word}
+use Rattle.xt_base.specs.Identifiers.{begins_word}
 use Rattle.vl_lex.specs.Operators.{IsOperator}
 use Rattle.vl_lex.specs.Spelling.{IsWord, AreDigits, IsBased, IsQuoted, IsSystem, Spells}
 use Rattle.vl_lex.specs.declared.kinds.Kind.{Kind}

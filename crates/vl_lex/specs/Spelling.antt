@@ -2,7 +2,8 @@
 use Rattle.std.specs.Prelude.{◌≡◌, ℕ, List, [], ◌∷◌, ◌++◌, Bool, false, Some, IsTrue}
 use Rattle.std.specs.Char.{is_digit}
 use Rattle.std.specs.List.{AllPass}
-use Rattle.vl_lex.specs.Bytes.{is_blank, begins_word, is_in_word, is_in_number, is_in_string, is_sign, radix_of}
+use Rattle.xt_base.specs.Identifiers.{begins_word, is_in_word}
+use Rattle.vl_lex.specs.Bytes.{is_blank, is_in_number, is_in_string, is_sign, radix_of}
 use Rattle.vl_lex.specs.Operators.{IsOperator}
 use Rattle.xt_base.specs.Reserved.{is_reserved}
 use Rattle.vl_lex.specs.declared.kinds.Kind.{Kind}

@@ -2,29 +2,16 @@
 ghost use Rattle.std.specs.Prelude.{◌≡◌, ◌≢◌, ◌≤◌, IfSome};
 ghost use Rattle.vl_lex.specs.Fronts.{begun_by};
 ghost use Rattle.std.specs.Char.{is_digit};
-ghost use Rattle.vl_lex.specs.Bytes.{is_blank, begins_word, is_in_word, is_in_number, is_in_string, is_sign, radix_of};
+ghost use Rattle.vl_lex.specs.Bytes.{is_blank, is_in_number, is_in_string, is_sign, radix_of};
 
 use crate::kinds::Kind;
+use xt_base::begins_word;
 
 /// Whether the byte may stand between tokens.
 pub fn is_blank(byte: u8) -> bool
     ensures { result ≡ is_blank byte }
 {
     byte == b'\t' || byte == b'\n' || byte == b'\x0c' || byte == b'\r' || byte == b' '
-}
-
-/// Whether the byte begins an identifier.
-pub fn begins_word(byte: u8) -> bool
-    ensures { result ≡ begins_word byte }
-{
-    byte.is_ascii_alphabetic() || byte == b'_'
-}
-
-/// Whether the byte goes on with an identifier.
-pub fn is_in_word(byte: u8) -> bool
-    ensures { result ≡ is_in_word byte }
-{
-    byte.is_ascii_alphanumeric() || byte == b'_' || byte == b'$'
 }
 
 /// Whether the byte is a digit to the radix, in either case.

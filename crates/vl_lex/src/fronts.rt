@@ -1,14 +1,14 @@
 //! The longest token of one kind at the front of a text.
 ghost use Rattle.std.specs.Prelude.{◌≡◌, ◌≤◌, length, take};
 ghost use Rattle.std.specs.List.{prefix_len};
-ghost use Rattle.vl_lex.specs.Bytes.{is_blank, is_in_word, is_in_number, is_in_string, is_sign};
+ghost use Rattle.xt_base.specs.Identifiers.{is_in_word};
+ghost use Rattle.vl_lex.specs.Bytes.{is_blank, is_in_number, is_in_string, is_sign};
 ghost use Rattle.vl_lex.specs.Fronts.{LongestFront};
 ghost use Rattle.vl_lex.specs.Operators.{is_operator};
 ghost use Rattle.vl_lex.specs.Spelling.{IsWord, AreDigits, IsBaseWithDigits, IsBased, IsQuoted, IsSystem};
 
-use crate::bytes::{
-    begins_word, is_blank, is_digit, is_in_number, is_in_string, is_in_word, is_sign, radix_of,
-};
+use crate::bytes::{is_blank, is_digit, is_in_number, is_in_string, is_sign, radix_of};
+use xt_base::{begins_word, is_in_word};
 
 /// How many blanks the text begins with.
 pub fn blanks_len(rest: &[u8]) -> usize

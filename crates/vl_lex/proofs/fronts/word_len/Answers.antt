@@ -1,5 +1,5 @@
 use Rattle.std.proofs.Common.{sym, ◌∙◌}
-use Rattle.vl_lex.specs.Bytes.{begins_word, is_in_word}
+use Rattle.xt_base.specs.Identifiers.{begins_word, is_in_word}
 use Rattle.vl_lex.proofs.Runs.{run_longest, no_run}
 use Rattle.vl_lex.proofs.fronts.word_len.Goals as goal
 
