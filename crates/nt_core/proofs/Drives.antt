@@ -1,5 +1,5 @@
 -- Nodes that drive, one by one.
-use Rattle.std.proofs.Common.{◌≡◌, ℕ, zero, suc, ◌<◌, ◌≤◌, List, [], ◌∷◌, ◌++◌, length, take, drop, get_or, ◌+◌, map, length-append, arith, refl, subst, ap, ◌∙◌, sym, Option, Some, None}
+use Rattle.std.proofs.Common.{◌≡◌, ℕ, zero, suc, ◌<◌, ◌≤◌, List, [], ◌∷◌, ◌++◌, length, take, drop, get_or, ◌+◌, map, length-append, arith, refl, subst, ap, ◌∙◌, sym, Some}
 use Rattle.std.specs.Prelude.{slice_get, slice_index, flat_map}
 use Rattle.std.proofs.lemmas.List.{length-map, map-append, length-take-le, take-append-drop}
 use Rattle.nt_core.specs.declared.netlist.Node.{Node}

@@ -1,18 +1,17 @@
 -- The definitions at small designs: what they compute to stands here.
-use Rattle.std.proofs.Common.{◌≡◌, ℕ, List, [], ◌∷◌, ◌++◌, refl, Option, Some, None}
+use Rattle.std.proofs.Common.{◌≡◌, ℕ, List, [], ◌∷◌, refl, Some}
 use Rattle.std.specs.Prelude.{codes}
 use Rattle.std.specs.Fmt.{digits}
-use Rattle.xt_bits.specs.Word as bits
 use Rattle.xt_bits.specs.Word.{word, number_of, bit_of}
 use Rattle.xt_bits.specs.Operators.{turned_bit}
 use Rattle.nt_core.specs.declared.netlist.Wire.{Wire}
 use Rattle.nt_core.specs.declared.netlist.Node.{Node}
 use Rattle.nt_core.specs.declared.netlist.Op.{Op}
-use Rattle.nt_core.specs.declared.netlist.Op.TheVariants.{Pin, Ack, Ret, Reg, Const, Word, Not, And, Or, Xor, Add, Sub, Mul, Div, Rem, SDiv, SRem, Shl, Shr, Sar, Eq, Lt, SLt, Parity, Choice, Concat, Slice, Copies}
+use Rattle.nt_core.specs.declared.netlist.Op.TheVariants.{Pin, Ack, Ret, Reg, Const, Not, Choice}
 use Rattle.nt_core.specs.Parts.{Parts}
 use Rattle.nt_core.specs.Text.{text_of}
 use Rattle.xt_bits.specs.Stimulus.{Stimulus}
-use Rattle.xt_bits.specs.Trace.{Trace, Seen, Call, Rested, Starved, Stalled, Called, Unknown}
+use Rattle.xt_bits.specs.Trace.{Call, Rested, Starved, Stalled, Called}
 use Rattle.nt_core.specs.DesignRun.{trace_within, run_start}
 
 abbrev node : ℕ → Op → Node

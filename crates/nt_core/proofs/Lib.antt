@@ -1,9 +1,12 @@
 pub mod Apart
 pub mod Copies
 pub mod Drives
+pub mod Ends
 mod Examples
+pub mod Grown
 pub mod NodeLists
 pub mod Ranges
 pub mod States
+pub mod Traces
 pub mod Values
 pub mod Writes

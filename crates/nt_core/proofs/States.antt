@@ -1,18 +1,17 @@
 -- States keep to their netlist.
-use Rattle.std.proofs.Common.{◌≡◌, ℕ, zero, suc, ◌<◌, List, [], ◌∷◌, length, map, set, get_or, replicate, arith, refl, subst, sym, ap, ◌∙◌, Bool, true, false, Option, Some, None}
+use Rattle.std.proofs.Common.{◌≡◌, ℕ, zero, suc, List, [], ◌∷◌, map, set, get_or, replicate, arith, refl, subst, sym, ap, ◌∙◌, Bool, true, false, Some}
 use Rattle.std.specs.Prelude.{slice_get, fold, if◌then◌else◌, All, IfOk, Result, Ok, Err}
 use Rattle.std.proofs.lemmas.Option.{same_Some, none-some, slice_get-get_or}
 use Rattle.std.proofs.lemmas.List.{length-map}
 use Rattle.std.proofs.Math.Seq.{map-set_same}
 use Rattle.xt_bits.specs.Word.{Word, word}
 use Rattle.xt_bits.specs.Operators.{any_of}
-use Rattle.nt_core.specs.declared.netlist.Node.{Node}
 use Rattle.nt_core.specs.declared.netlist.Memory.{Memory}
 use Rattle.nt_core.specs.declared.netlist.MemWrite.{MemWrite}
 use Rattle.nt_core.specs.Parts.{Parts}
 use Rattle.nt_core.specs.Sources.{State, Inputs}
 use Rattle.nt_core.specs.Forms.{widths}
-use Rattle.nt_core.specs.Conditions.{Drive, IsWrite, IsNetlist}
+use Rattle.nt_core.specs.Conditions.{IsWrite, IsNetlist}
 use Rattle.nt_core.specs.NodeValue.{value_at}
 use Rattle.nt_core.specs.Tick.{start, written, next, tick, tick_values}
 use Rattle.nt_core.specs.Fitting.{value_widths, IsState, Fits}

@@ -11,7 +11,8 @@ use Rattle.nt_core.specs.declared.netlist.Op.TheVariants.{Pin, Ack, Ret, Reg, Wo
 use Rattle.nt_core.specs.FunctionLine.{FunctionLine}
 use Rattle.nt_core.specs.HostLine.{HostLine}
 use Rattle.nt_core.specs.Parts.{Parts}
-use Rattle.nt_core.specs.Names.{is_identifier, is_pin_name}
+use Rattle.xt_base.specs.Identifiers.{is_identifier}
+use Rattle.nt_core.specs.Names.{is_pin_name}
 use Rattle.nt_core.specs.Forms.{IsWidth, IsNode, widths}
 
 -- ---- the parts by themselves

@@ -1,13 +1,19 @@
 -- The run of a written design by its driver, and its trace. All of it is this project's own.
-use Rattle.std.specs.Prelude.{◌≡◌, ℕ, zero, suc, ◌+◌, List, [], ◌∷◌, map, Option, Some, None, option_map, option_and_then, if◌then◌else◌}
+use Rattle.std.specs.Prelude.{◌≡◌, ◌≢◌, ℕ, zero, suc, ◌+◌, List, [], ◌∷◌, map, length, All, Option, Some, None, option_map, option_and_then, if◌then◌else◌}
 use Rattle.xt_bits.specs.Word.{Word}
 use Rattle.nt_core.specs.Parts.{Parts}
 use Rattle.nt_core.specs.Sources.{State}
 use Rattle.nt_core.specs.Tick.{start, settled, tick_values, next}
 use Rattle.nt_core.specs.Ports.{edge_up, outputs}
 use Rattle.nt_core.specs.Driver.{Agent, Free, listen, halt, driven, pass}
-use Rattle.xt_bits.specs.Stimulus.{Reply, Stimulus}
+use Rattle.xt_bits.specs.Stimulus.{Reply, Stimulus, FitPins}
 use Rattle.xt_bits.specs.Trace.{Ending, Rested, Starved, Stalled, Seen, Trace}
+
+-- a stimulus for a design: at least one row, each with a value for each input pin, and a list of replies for each process
+pub record IsStimulus (n : Parts) (x : Stimulus) : Type 0 where
+  pub some : x.rows ≢ []
+  pub rows : All (FitPins (map (λ i. i.width) n.inputs)) x.rows
+  pub replies : length x.replies ≡ n.processes
 
 -- a design in its run: what it holds, and its processes as the host sees them
 pub record Run : Type 0 where
@@ -56,7 +62,7 @@ abbrev pub step_on : (ℕ → Run → Option Ended) → Parts → List Word → 
 step_on go n row zero r = tick_on go n row zero r
 step_on go n row (suc ticks) r = halt_or (halt r.agents) r (tick_on go n row (suc ticks) r)
 
--- the end of an edge in which so many ticks were made, where it comes after at most so many more
+-- the end of an edge in which so many ticks were made, where it comes within so many steps more: a tick is one, and so is the look at which nothing goes on
 abbrev pub edge_within : ℕ → Parts → List Word → ℕ → Run → Option Ended
 edge_within zero n row ticks r = None
 edge_within (suc more) n row ticks r = step_on (edge_within more n row) n row ticks (heard n row r)
@@ -78,7 +84,7 @@ after go e (Rested ticks pins) = option_map (λ t. shown e ∷ t) (go e.run)
 after go e Starved = Some (shown e ∷ [])
 after go e Stalled = Some (shown e ∷ [])
 
--- the trace over these rows, where no edge takes more than so many ticks
+-- the trace over these rows, where each edge ends within so many steps
 abbrev pub trace_within : ℕ → Parts → List (List Word) → Run → Option Trace
 trace_within most n [] r = Some []
 trace_within most n (row ∷ rows) r = option_and_then (λ e. after (trace_within most n rows) e e.ending) (edge_within most n row 0 (edge_start r))

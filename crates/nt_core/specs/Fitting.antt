@@ -1,4 +1,5 @@
--- Inputs and states that fit a netlist: a value of the right width for each pin, register and word. All of it is this project's own.
+-- Inputs and states that fit a netlist: a value of the right width for each pin, register and word; that each value lies in its width is kept by
+-- the type of values. All of it is this project's own.
 use Rattle.std.specs.Prelude.{◌≡◌, ℕ, List, map, replicate}
 use Rattle.xt_bits.specs.Word.{Word}
 use Rattle.nt_core.specs.Parts.{Parts}
@@ -17,6 +18,7 @@ pub record IsState (n : Parts) (s : State) : Type 0 where
   pub registers : value_widths s.registers ≡ value_widths n.registers
   pub memories : map value_widths s.memories ≡ map (λ m. replicate m.words m.width) n.memories
 
+-- all that the nodes read
 pub record Fits (n : Parts) (s : Sources) : Type 0 where
   pub row : IsRow n s.inputs.row
   pub state : IsState n s.state

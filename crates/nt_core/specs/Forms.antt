@@ -54,7 +54,8 @@ AreAlike ws a b = (a < length ws) × (b < length ws) × (slice_index ws a ≡ sl
 abbrev pub CanBeDivided : List ℕ → ℕ → bits.Word → Type 0
 CanBeDivided ws a k = (a < length ws) × (k.width ≡ slice_index ws a) × (k.value ≢ 0)
 
--- the operands of a form are earlier nodes of fitting widths, and so its own width is in range
+-- the operands of a form are earlier nodes of fitting widths; where a form has a width of its own, it is in range; a constant's value is asked of
+-- the node
 abbrev pub HasOperands : List ℕ → Op → Type 0
 HasOperands ws (Pin p w) = IsWidth w
 HasOperands ws (Ack p) = Unit {0}

@@ -1,5 +1,5 @@
 //! Building a netlist node by node.
-ghost use Rattle.std.specs.Prelude.{◌≡◌, [], IfOk, OnErr};
+ghost use Rattle.std.specs.Prelude.{◌≡◌, ◌<◌, ◌≤◌, [], length, IfOk, OnErr};
 ghost use Rattle.nt_core.specs.Forms.{widths, HasOperands};
 ghost use Rattle.nt_core.specs.Growth.{IsAdded};
 ghost use Rattle.nt_core.specs.Parts.{assembled};
@@ -45,6 +45,7 @@ impl Builder {
     pub fn node(&mut self, op: Op) -> Result<u32, NoMemory>
         requires { HasOperands (widths self.old) op }
         ensures ok { IfOk result (λ i. IsAdded self.old op self.new i) }
+        ensures room { IfOk result (λ i. length self.new ≤ 4294967295) }
         ensures err { OnErr result (self.new ≡ self.old) }
     {
         prove!(is_constant_in_range(&op));
@@ -83,12 +84,13 @@ impl Builder {
     }
 }
 
-/// A node's number, of which there are as many as a `u32` has values.
+/// A node's number. A list that is numbered by a `u32` has at most 4,294,967,295 entries.
 fn number_of(count: usize) -> Result<u32, NoMemory>
-    ensures { IfOk result (λ number. number ≡ count) }
+    ensures number { IfOk result (λ number. number ≡ count) }
+    ensures room { IfOk result (λ number. number < 4294967295) }
 {
     match u32::try_from(count) {
-        Ok(number) => Ok(number),
-        Err(_) => Err(NoMemory),
+        Ok(number) if number < u32::MAX => Ok(number),
+        _ => Err(NoMemory),
     }
 }

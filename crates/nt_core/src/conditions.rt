@@ -1,58 +1,23 @@
 //! Whether a shell and nodes make a netlist.
 ghost use Rattle.std.specs.Prelude.{◌≡◌, ◌≢◌, ℕ, ◌+◌, ◌<◌, ◌≤◌, ◌↔◌, ◌++◌, ◌∷◌, [], List, map, flat_map, length, slice_get, slice_index, Some, IsSome, option_copied, All, AllPairs, IsTrue};
-ghost use Rattle.std.specs.List.{list_all};
 ghost use Rattle.std.specs.List.Sorted.{IsStrictlyIncreasing};
 ghost use Rattle.xt_bits.specs.Word.{IsKept};
-ghost use Rattle.nt_core.specs.Names.{is_letter, is_word_byte, is_word, is_identifier, is_pin_name};
+ghost use Rattle.xt_base.specs.Identifiers.{is_identifier};
+ghost use Rattle.nt_core.specs.Names.{is_pin_name};
 ghost use Rattle.nt_core.specs.Conditions.{AreWidths, IsFunction, IsPin, IsHost, AreHosts, IsMemory, HasSource, Drive, IsWrite, HasCounts, HasParts, HasPins, IsConnected, IsShell, host_port_widths, port_widths, host_of, reply_widths};
 ghost use Rattle.nt_core.specs.Forms.{IsWidth, widths};
 ghost use Rattle.nt_core.specs.Parts.{assembled};
 
 use crate::netlist::{Function, HostPins, MemWrite, Memory, Node, Op, Shell, Wire};
 use crate::operands::{is_node, is_width};
-use xt_base::{Item, MAX_WIDTH, is_reserved};
+use xt_base::{Item, MAX_WIDTH, is_identifier};
 use xt_bits::Bits;
-
-/// Whether a name is an identifier: a word that isn't reserved (IEEE 1364-2005, 3.7).
-pub fn is_identifier(name: &[u8]) -> bool
-    ensures { result ≡ is_identifier name.now }
-{
-    is_word(name) && !is_reserved(name)
-}
 
 /// Whether a name is an identifier that a pin may have.
 pub fn is_pin_name(name: &[u8]) -> bool
     ensures { result ≡ is_pin_name name.now }
 {
     is_identifier(name) && !name.starts_with(b"xtc_")
-}
-
-/// Whether a name is a word: a letter or a low line, then letters, digits, low lines and dollar signs.
-fn is_word(name: &[u8]) -> bool
-    ensures { result ≡ is_word name.now }
-{
-    match name.split_first() {
-        None => false,
-        Some((first, rest)) => is_letter(*first) && are_word_bytes(rest),
-    }
-}
-
-fn are_word_bytes(bytes: &[u8]) -> bool
-    ensures { result ≡ list_all is_word_byte bytes.now }
-{
-    bytes.iter().all(|c| is_word_byte(*c))
-}
-
-fn is_letter(c: u8) -> bool
-    ensures { result ≡ is_letter c }
-{
-    matches!(c, b'a'..=b'z' | b'A'..=b'Z' | b'_')
-}
-
-fn is_word_byte(c: u8) -> bool
-    ensures { result ≡ is_word_byte c }
-{
-    is_letter(c) || matches!(c, b'0'..=b'9' | b'$')
 }
 
 /// Whether there are at most 16 widths, each in range.
@@ -385,10 +350,21 @@ fn is_kept(start: &Bits) -> bool
 }
 
 impl Shell {
-    /// Whether this shell and these nodes, which fit one another, make a netlist.
+    /// Whether this shell and these nodes keep all conditions of a netlist but those on the nodes alone, which
+    /// `has_operands` asks of each.
     ///
     /// It compares the names of each pair of pins.
     pub fn fits(&self, nodes: &[Node]) -> bool
+        ensures { IsTrue result ↔ IsShell (assembled self.now nodes.now) }
+    {
+        are_distinct(self.inputs.as_slice(), self.outputs.as_slice()) && self.fits_distinct(nodes)
+    }
+
+    /// Whether this shell, no two of whose pins have one name, and these nodes make a netlist.
+    ///
+    /// Its time is linear in the length of the parts.
+    pub fn fits_distinct(&self, nodes: &[Node]) -> bool
+        requires { AllPairs (λ a b. a.name ≢ b.name) (self.now.inputs ++ self.now.outputs) }
         ensures { IsTrue result ↔ IsShell (assembled self.now nodes.now) }
     {
         has_counts(self, nodes)
@@ -415,13 +391,12 @@ fn has_parts(shell: &Shell, nodes: &[Node]) -> bool
         && are_hosts(shell.processes, shell.hosts.as_slice())
 }
 
-/// Whether the pins are as they have to be.
+/// Whether the pins, no two of which have one name, are as they have to be.
 fn has_pins(shell: &Shell, nodes: &[Node]) -> bool
+    requires { AllPairs (λ a b. a.name ≢ b.name) (shell.now.inputs ++ shell.now.outputs) }
     ensures { IsTrue result ↔ HasPins (assembled shell.now nodes.now) }
 {
-    let inputs = shell.inputs.as_slice();
-    let outputs = shell.outputs.as_slice();
-    are_pins(inputs) && are_pins(outputs) && are_distinct(inputs, outputs)
+    are_pins(shell.inputs.as_slice()) && are_pins(shell.outputs.as_slice())
 }
 
 /// Whether the nodes read what there is, and drive all that is to be driven.

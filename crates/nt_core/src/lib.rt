@@ -4,12 +4,14 @@
 mod builder;
 mod conditions;
 mod evaluation;
+mod laws;
 mod netlist;
 mod operands;
 
 pub use builder::Builder;
-pub use conditions::{is_identifier, is_pin_name};
+pub use conditions::is_pin_name;
 pub use evaluation::{Inputs, State, evaluate, form_value, is_row, tick};
+pub use laws::has_one_trace;
 pub use netlist::{Function, HostPins, MemWrite, Memory, Netlist, Node, Op, Shell, Wire};
 pub use operands::{can_follow, has_operands};
 

@@ -5,11 +5,11 @@ ghost use Rattle.nt_core.specs.Fitting.{IsState};
 
 use crate::{
     Builder, Function, HostPins, Inputs, MemWrite, Memory, Netlist, Node, Op, Shell, State, Wire,
-    can_follow, evaluate, has_operands, is_identifier, is_pin_name, is_row, tick,
+    can_follow, evaluate, has_operands, is_pin_name, is_row, tick,
 };
 use std::alloc::Global;
 use std::test::Fail;
-use xt_base::{Name, is_reserved};
+use xt_base::{Name, is_identifier, is_reserved};
 use xt_bits::Bits;
 
 /// The values on the pins, and those of the nodes of `forms`, worked out by hand.

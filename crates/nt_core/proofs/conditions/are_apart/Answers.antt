@@ -1,5 +1,5 @@
 -- A pin is compared with those after it.
-use Rattle.std.proofs.Common.{◌≡◌, true, sym, ◌∙◌}
+use Rattle.std.proofs.Common.{sym, ◌∙◌}
 use Rattle.nt_core.proofs.Apart.{later_differ, differs_more}
 use Rattle.nt_core.proofs.conditions.are_apart.Goals as goal
 

@@ -1,5 +1,5 @@
 -- Where the pins are apart, both lists are.
-use Rattle.std.proofs.Common.{◌≡◌, true, false, sym, ◌∙◌}
+use Rattle.std.proofs.Common.{◌≡◌, true, ◌∙◌}
 use Rattle.nt_core.proofs.Apart.{apart_left, apart_right}
 use Rattle.nt_core.proofs.conditions.are_distinct.Goals as goal
 use Rattle.nt_core.proofs.conditions.are_distinct.Goals.{then-are_apart, else-are_apart}

@@ -1,7 +1,6 @@
 -- Each host's ports stand behind those of the hosts before it.
-use Rattle.std.proofs.Common.{◌≡◌, ◌≤◌, ◌+◌, ℕ, List, ◌++◌, length, take, drop, true, refl, sym, subst, ap, ◌∙◌, arith}
+use Rattle.std.proofs.Common.{◌≡◌, ◌≤◌, ◌+◌, ℕ, List, ◌++◌, length, take, drop, sym, subst, ap, ◌∙◌, arith}
 use Rattle.std.specs.Prelude.{flat_map}
-use Rattle.nt_core.specs.HostLine.{HostLine}
 use Rattle.nt_core.specs.Conditions.{Drive, host_port_widths}
 use Rattle.nt_core.proofs.Drives.{drive_more, drive_rest, hosts_step}
 use Rattle.nt_core.proofs.conditions.drive_hosts.Goals as goal

@@ -1,5 +1,5 @@
 -- The loop's facts are those of the lists.
-use Rattle.std.proofs.Common.{◌≡◌, ℕ, ◌<◌, List, length, map, Some, refl, sym, ap, ◌∙◌, arith, get_or}
+use Rattle.std.proofs.Common.{ℕ, map, Some, refl, sym, ap, ◌∙◌, arith}
 use Rattle.std.proofs.lemmas.List.{length-map, get_or-map}
 use Rattle.xt_bits.specs.Word.{Word}
 use Rattle.nt_core.proofs.Drives.{drive_each, drive_all}

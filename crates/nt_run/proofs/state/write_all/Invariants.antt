@@ -1,0 +1,7 @@
+use Rattle.std.proofs.Common.{◌≡◌, take, map}
+use Rattle.std.specs.Prelude.{fold}
+use Rattle.nt_core.specs.Tick.{written}
+use Rattle.nt_run.proofs.state.write_all.Given as goal
+
+abbrev pub invariant-loop-entry : goal.invariant-loop-entry
+invariant-loop-entry l = map (λ v. v.items) l.memories ≡ fold (written l.values) (map (λ v. v.items) l.initial.memories) (take l.entry-index l.entry-items)

@@ -1,0 +1,25 @@
+-- What a running design keeps beside what contracts see of it.
+use Rattle.std.specs.Prelude.{◌≡◌, ℕ, ◌<◌, ◌^◌, Bool, true, List, length, slice_index}
+use Rattle.xt_bits.specs.Word.{Word}
+use Rattle.nt_core.specs.Parts.{Parts}
+use Rattle.nt_core.specs.Sources.{Inputs, State}
+use Rattle.nt_core.specs.Conditions.{IsNetlist, port_widths}
+use Rattle.nt_core.specs.Fitting.{Fits}
+use Rattle.nt_core.specs.Ports.{request_port}
+use Rattle.nt_core.specs.Tick.{settled}
+use Rattle.nt_run.specs.Acknowledged.{Acknowledged, silence}
+
+-- the place of each host's first output port; a `usize` counts all ports
+pub record ArePorts (n : Parts) (ports : List ℕ) : Type 0 where
+  pub small : length (port_widths n) < 2 ^ 64
+  pub count : length ports ≡ length n.hosts
+  pub each : (h : ℕ) → h < length n.hosts → slice_index ports h ≡ request_port n h
+
+-- the inputs and the state fit the design; there is a value for each node, and those of a settling once it has settled
+pub record IsKept (n : Parts) (i : Inputs) (s : State) (a : Acknowledged) (vs : List Word) (places : List ℕ) (is_settled : Bool) : Type 0 where
+  pub design : IsNetlist n
+  pub fits : Fits n (record { inputs = i; state = s })
+  pub quiet : a ≡ silence
+  pub values : length vs ≡ length n.nodes
+  pub settled : is_settled ≡ true → vs ≡ settled n i.row s
+  pub ports : ArePorts n places

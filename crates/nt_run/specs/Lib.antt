@@ -1,0 +1,4 @@
+pub mod Acknowledged
+pub mod Kept
+pub mod Machine
+pub mod Ticks
