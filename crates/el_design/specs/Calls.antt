@@ -1,5 +1,5 @@
 -- Rules on tasks, functions and imports: purity, recursion, arguments, disables, calls of the host and nesting. All of it is this project's own,
--- but that a function may hold no time control and enable no task (IEEE 1364-2005, 10.4.4).
+-- but that a function may hold no time control and no nonblocking assignment, and enable no task (IEEE 1364-2005, 10.4.4).
 use Rattle.std.specs.Prelude.{◌≡◌, ◌≢◌, ◌+◌, ◌<◌, ◌||◌, ◌&&◌, ◌==◌, not, ℕ, suc, Bool, true, false, List, Option, Some, None, is_some, is_none, Contains, flat_map, length, slice_get}
 use Rattle.std.specs.List.{list_any}
 use Rattle.xt_base.specs.declared.refusals.Place.{Place}

@@ -23,7 +23,7 @@ body_scene call store = record { call = call; nets = []; store = store }
 abbrev pub assigned : Flat → (ℕ → List Word → Word) → ℕ → Expr → Store → Store
 assigned d call v e store = let s = body_scene call store in put_all store (writes_of d s (ToVariable v) (value d s e))
 
--- The store after a statement of a function's body. A `for` of a design that breaks no rule has a test of its variable against a constant and adds a constant,
+-- The store after a statement of a function's body. A `for` of a design that breaks no rule has a test of its variable against a constant and adds or subtracts a constant,
 -- so it ends within as many turns as its variable has values. A `while` takes no turn, since only one of the constant 0 is admitted. What else isn't admitted does nothing.
 abbrev pub body_store : Flat → (ℕ → List Word → Word) → Statement → Store → Store
 body_store d call Null store = store

@@ -1,11 +1,16 @@
--- Laws that say the definitions again in the standard's words.
-use Rattle.std.specs.Prelude.{◌≡◌, ◌⊎◌, ℕ, zero, suc, Bool, true, false, not, ◌&&◌, if◌then◌else◌, List, [], ◌∷◌, ◌++◌, map, Some, is_some}
+-- Laws that say the definitions again in the words of the rules of execution.
+use Rattle.std.specs.Prelude.{◌≡◌, ◌⊎◌, ◌≤◌, ◌==◌, ℕ, zero, suc, Bool, true, false, not, ◌&&◌, if◌then◌else◌, List, [], ◌∷◌, ◌++◌, map, length, slice_get, Some, is_some}
 use Rattle.std.specs.List.{list_any}
-use Rattle.el_design.specs.Plain.{Statement, Null, Skip, Seq, Block, Arm, Forever, Flat}
+use Rattle.xt_bits.specs.Word.{Word}
+use Rattle.xt_bits.specs.Stimulus.{Stimulus}
+use Rattle.xt_bits.specs.Trace.{Trace}
+use Rattle.el_design.specs.Plain.{Statement, Null, Skip, Seq, Block, Arm, Forever, FlatProc, Flat}
 use Rattle.el_design.specs.Value.{Scene}
 use Rattle.el_design.specs.Stack.{Work, Do, quiet_step, IsStill, settle, is_waiting, is_ended}
 use Rattle.el_design.specs.Act.{Process, act}
-use Rattle.el_design.specs.Queue.{Config, has_value, is_stuck, can_run, Event, Run, Follow, Update, ready}
+use Rattle.el_design.specs.Queue.{Config, has_value, is_stuck, can_run, Event, Run, Follow, Update, ready, IsStarved, IsAtRest}
+use Rattle.el_design.specs.Run.{Starts, Continues, Takes, Any, Runs}
+use Rattle.el_design.specs.Sizes.{CountsTurns, u_of}
 
 -- so many steps that are no events lead from a stack to another
 abbrev pub QuietSteps : ℕ → List Work → List Work → Type 0
@@ -66,3 +71,44 @@ listed d c =
 
 abbrev pub EventsAreListed : Flat → Config → Type 0
 EventsAreListed d c = ready d c ≡ listed d c
+
+-- ---- edges of runs
+
+-- an edge of a run begins in a state, with these rows left after its own
+pub data EdgeBegins (d : Flat) (x : Stimulus) : List (List Word) → Config → Type 0 where
+  first_edge : {row : List Word} {more : List (List Word)} {begin : Config} → x.rows ≡ row ∷ more → Starts d x row begin → EdgeBegins d x more begin
+  next_edge : {row : List Word} {more : List (List Word)} {begin end next : Config} (es : List Event) →
+      EdgeBegins d x (row ∷ more) begin → Takes d Any 0 begin es end → IsAtRest d end → Continues d end row next → EdgeBegins d x more next
+
+-- an edge that is over
+abbrev pub IsOver : Flat → Config → Type 0
+IsOver d c = IsAtRest d c ⊎ IsStarved d c
+
+-- In each edge of each run: no sequence of events is longer than some number; one that no event can follow came to rest or starved; and some do.
+abbrev pub EveryEdgeEnds : Flat → Type 0
+EveryEdgeEnds d =
+    (x : Stimulus) (rows : List (List Word)) (begin : Config) → EdgeBegins d x rows begin →
+    ((n : ℕ) × ((es : List Event) (end : Config) → Takes d Any 0 begin es end → length es ≤ n))
+    × ((es : List Event) (end : Config) → Takes d Any 0 begin es end → ready d end ≡ [] → IsOver d end)
+    × ((es : List Event) × (end : Config) × Takes d Any 0 begin es end × IsOver d end)
+
+-- how many events of a process are among these; its updates are events of their own
+abbrev pub is_event_of : ℕ → Event → Bool
+is_event_of p (Run i) = i == p
+is_event_of p (Follow n) = false
+is_event_of p (Update i) = false
+
+abbrev pub events_of : ℕ → List Event → ℕ
+events_of p [] = 0
+events_of p (e ∷ es) = if is_event_of p e then suc (events_of p es) else events_of p es
+
+-- in each edge of each run no process has more events than its U, an unrolled loop of T turns counting T + 1 times
+abbrev pub AtMostUEvents : Flat → Type 0
+AtMostUEvents d =
+    (times : List ℕ → Statement → ℕ) → CountsTurns d times →
+    (x : Stimulus) (rows : List (List Word)) (begin end : Config) (es : List Event) → EdgeBegins d x rows begin → Takes d Any 0 begin es end →
+    (p : ℕ) (process : FlatProc) → slice_get d.procs p ≡ Some process → events_of p es ≤ u_of d times process
+
+-- whatever events are taken, there is one trace
+abbrev pub EveryOrder : Flat → Type 0
+EveryOrder d = (x : Stimulus) (plays others : List (List Event)) (trace other : Trace) → Runs d x plays trace → Runs d x others other → trace ≡ other

@@ -7,9 +7,9 @@ pub mod Function
 pub mod Stack
 pub mod Act
 pub mod Queue
+pub mod Alone
 pub mod Ticks
 pub mod Run
-pub mod Laws
 pub mod Names
 pub mod InPlace
 pub mod Turns
@@ -22,3 +22,6 @@ pub mod Rules
 pub mod Simulated
 pub mod Sound
 pub mod Checked
+pub mod Places
+pub mod Bodies
+pub mod Laws

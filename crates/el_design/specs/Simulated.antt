@@ -1,10 +1,12 @@
 -- What the plain simulator's values stand for.
-use Rattle.std.specs.Prelude.{List, map, zip, Option, option_map, Vec}
+use Rattle.std.specs.Prelude.{ℕ, suc, ◌==◌, if◌then◌else◌, List, [], ◌∷◌, map, zip, Option, option_map, Vec}
 use Rattle.std.specs.Global.{Global}
 use Rattle.el_design.specs.View.{flat_of, expr_of, lvalue_of, statement_of, seq_of}
-use Rattle.el_design.specs.Plain.{Forever, Flat}
+use Rattle.xt_bits.specs.Word.{Word, word}
+use Rattle.el_design.specs.Plain.{Forever, FlatNet, Flat}
 use Rattle.el_design.specs.Value as values
-use Rattle.el_design.specs.Queue.{scene_of}
+use Rattle.el_design.specs.Queue as queue
+use Rattle.el_design.specs.Queue.{scene_of, net_aim}
 use Rattle.el_design.specs.Store as stores
 use Rattle.el_design.specs.Stack as stacks
 use Rattle.xt_bits.specs.Trace as traces
@@ -22,6 +24,13 @@ use Rattle.el_design.specs.declared.simulator.writes.Spot as spots
 use Rattle.el_design.specs.declared.simulator.writes.Spot.TheVariants as variants
 use Rattle.el_design.specs.declared.simulator.writes.Write as writes
 use Rattle.el_design.specs.declared.simulator.values.Scene.{Scene}
+use Rattle.el_design.specs.declared.simulator.queue.Config as configs
+use Rattle.el_design.specs.declared.simulator.queue.Event as events
+use Rattle.el_design.specs.declared.simulator.queue.Event.TheVariants as event
+use Rattle.el_design.specs.declared.simulator.starts.Stimulus as given
+use Rattle.el_design.specs.declared.simulator.traces.Ending as endings
+use Rattle.el_design.specs.declared.simulator.traces.Ending.TheVariants as ending
+use Rattle.el_design.specs.declared.simulator.traces.Seen as seens
 
 abbrev pub flat_seen : Scene → Flat
 flat_seen s = flat_of s.design.now
@@ -75,3 +84,46 @@ did_seen kinds.Replied = acts.Replied
 
 abbrev pub acted_seen : processes.Process → acteds.Acted → acts.Acted
 acted_seen p a = record { did = did_seen a.did; at = a.at; writes = map write_seen a.writes.items; process = process_seen p }
+
+-- ---- nets
+
+-- the value of a net without an expression, by the pins' nets and their values
+abbrev pub pin_in : List ℕ → List Word → ℕ → ℕ → Word
+pin_in [] row n w = word w 0
+pin_in (k ∷ ks) [] n w = word w 0
+pin_in (k ∷ ks) (x ∷ row) n w = if k == n then x else pin_in ks row n w
+
+-- the values that nets take, the first of which has this number
+abbrev pub aims_of : Flat → List Word → values.Scene → ℕ → List FlatNet → List Word
+aims_of d row s n [] = []
+aims_of d row s n (x ∷ xs) = net_aim d row s n x ∷ aims_of d row s (suc n) xs
+
+-- ---- runs
+
+abbrev pub event_seen : events.Event → queue.Event
+event_seen (event.Run i) = queue.Run i
+event_seen (event.Follow n) = queue.Follow n
+event_seen (event.Update i) = queue.Update i
+
+abbrev pub events_seen : List events.Event → List queue.Event
+events_seen es = map event_seen es
+
+abbrev pub config_seen : configs.Config → queue.Config
+config_seen c = record { edge = c.edge; row = c.row.now; store = c.store; nets = c.nets; procs = map process_seen c.procs.items }
+
+abbrev pub stimulus_seen : given.Stimulus → stimuli.Stimulus
+stimulus_seen x = record { rows = x.rows; replies = map (λ rs. map reply_seen rs) x.replies }
+
+-- what is seen of an edge, and of all
+abbrev pub ending_seen : endings.Ending → traces.Ending
+ending_seen (ending.Rested ticks pins) = traces.Rested ticks pins
+ending_seen ending.Starved = traces.Starved
+
+abbrev pub seen_seen : seens.Seen → traces.Seen
+seen_seen s = record { calls = map (λ cs. map call_seen cs) s.calls; ending = ending_seen s.ending }
+
+abbrev pub trace_seen : List seens.Seen → traces.Trace
+trace_seen xs = map seen_seen xs
+
+abbrev pub plays_seen : List (List events.Event) → List (List queue.Event)
+plays_seen xs = map events_seen xs

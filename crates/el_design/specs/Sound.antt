@@ -11,7 +11,7 @@ use Rattle.el_design.specs.declared.expressions.UnOp.{UnOp}
 use Rattle.el_design.specs.declared.expressions.UnOp.TheVariants as unary
 use Rattle.el_design.specs.declared.expressions.BinOp.{BinOp}
 use Rattle.el_design.specs.declared.expressions.BinOp.TheVariants as binary
-use Rattle.el_design.specs.Plain.{Expr, Number, NetValue, Variable, MemoryWord, Select, Unary, Binary, Choice, Concat, Copies, Sign, Resize, Call, Exprs, NoExpr, More, Range, Bit, Part, Up, Down, Lvalue, ToVariable, ToPart, ToWord, ToWordPart, Both, Nowhere, Statement, Seq, Block, Assign, If, Case, Arm, For, While, Repeat, Forever, Enable, Disable, Host, FlatNet, FlatTask, FlatFunc, FlatProc, Flat}
+use Rattle.el_design.specs.Plain.{Expr, Number, NetValue, Variable, MemoryWord, Select, Unary, Binary, Choice, Concat, Copies, Sign, Resize, Call, Exprs, NoExpr, More, Range, Bit, Part, Up, Down, Lvalue, ToVariable, ToPart, ToWord, ToWordPart, Both, Nowhere, Statement, Skip, Seq, Block, Assign, If, Case, Arm, For, While, Repeat, Forever, Enable, Disable, Host, FlatNet, FlatTask, FlatFunc, FlatProc, Flat}
 use Rattle.el_design.specs.Value.{shape_of, value}
 use Rattle.el_design.specs.Assign.{range_width}
 use Rattle.el_design.specs.Turns.{fixed}
@@ -199,13 +199,19 @@ abbrev pub all_marks : Flat → List ℕ
 all_marks d = map (λ t. t.mark) d.tasks ++ flat_map marks_in (bodies_of d)
 
 -- how many nodes of a target and of a statement stand in one another
-abbrev pub target_depth : Lvalue → ℕ
-target_depth (ToVariable v) = 1
-target_depth (ToPart v r) = suc (range_depth r)
-target_depth (ToWord v i) = suc (depth i)
-target_depth (ToWordPart v i r) = suc (max (depth i) (range_depth r))
-target_depth (Both a b) = suc (max (target_depth a) (target_depth b))
-target_depth Nowhere = 1
+abbrev mutual
+  pub target_depth : Lvalue → ℕ
+  target_depth (ToVariable v) = 1
+  target_depth (ToPart v r) = suc (range_depth r)
+  target_depth (ToWord v i) = suc (depth i)
+  target_depth (ToWordPart v i r) = suc (max (depth i) (range_depth r))
+  target_depth (Both a b) = suc (max (target_depth a) (parts_depth b))
+  target_depth Nowhere = 1
+
+  -- the parts of a concatenation stand beside one another
+  pub parts_depth : Lvalue → ℕ
+  parts_depth (Both a b) = max (target_depth a) (parts_depth b)
+  parts_depth t = 0
 
 abbrev pub deepest : List ℕ → ℕ
 deepest [] = 0
@@ -215,6 +221,7 @@ abbrev pub own_depth : Statement → ℕ
 own_depth x = max (deepest (map depth (own_expressions x))) (deepest (map target_depth (own_targets x)))
 
 abbrev pub statement_depth : Statement → ℕ
+statement_depth Skip = 0
 statement_depth (Seq a b) = max (statement_depth a) (statement_depth b)
 statement_depth (Arm on labels body others) = max (statement_depth body) (statement_depth others)
 statement_depth (Block at mark body) = suc (statement_depth body)
@@ -243,10 +250,15 @@ abbrev pub FitsImport : List Expr → Option Import → Type 0
 FitsImport ins None = ⊥
 FitsImport ins (Some f) = All FitsPort (zip f.ins ins)
 
+-- the arms of a `case` have its expression
+abbrev pub ChooseBy : Expr → Statement → Type 0
+ChooseBy on (Arm e labels body others) = (e ≡ on) × ChooseBy on others
+ChooseBy on s = Unit {0}
+
 -- what a statement itself keeps beside its expressions and targets
 abbrev pub FitsStatement : Flat → Statement → Type 0
 FitsStatement d (Assign at to e held) = (w : ℕ) × IsTarget d to w × IsWidth w × (w ≤ width e)
-FitsStatement d (Case at on arms) = All (λ l. width l ≡ width on) (labels_in arms)
+FitsStatement d (Case at on arms) = All (λ l. width l ≡ width on) (labels_in arms) × ChooseBy on arms
 FitsStatement d (For at v first test next body) = (w : ℕ) × IsPlainVariable d v w × (w ≤ width first) × (w ≤ width next)
 FitsStatement d (Enable at t ins outs) = FitsTask d ins (slice_get d.tasks t)
 FitsStatement d (Disable at m) = Contains (all_marks d) m

@@ -1,5 +1,5 @@
--- What variables hold, and what a write does to it.
-use Rattle.std.specs.Prelude.{ℕ, ◌+◌, max, List, [], ◌∷◌, map, fold, get_or, set, replicate, slice_get, ℤ, pos, negsuc, ◌-ℤ◌, option_map, unwrap_or}
+-- What variables hold, and what a write does to it (IEEE 1364-2005, 4.2, 4.9 and 5.2; what is out of range is this project's own).
+use Rattle.std.specs.Prelude.{ℕ, ◌+◌, ◌==◌, if◌then◌else◌, max, List, [], ◌∷◌, map, fold, get_or, set, replicate, slice_get, ℤ, pos, negsuc, ◌-ℤ◌, option_map, unwrap_or}
 use Rattle.xt_bits.specs.Word.{Word, word}
 use Rattle.xt_bits.specs.Operators.{select_of, replace_of}
 use Rattle.el_design.specs.declared.designs.Var.{Var}
@@ -16,9 +16,12 @@ declared d v fact = unwrap_or (option_map fact (slice_get d.vars v)) 0
 abbrev pub width_of : Flat → ℕ → ℕ
 width_of d v = declared d v (λ x. x.width)
 
--- each variable at its declared start value (section on values: this project's own)
+-- what each word of a variable holds at the start: its declared value, and 0 in a memory, which has none; this is this project's own
+abbrev pub start_word : Var → Word
+start_word v = if v.words == 0 then v.start else word v.width 0
+
 abbrev pub start_store : Flat → Store
-start_store d = map (λ v. replicate (max 1 v.words) v.start) d.vars
+start_store d = map (λ v. replicate (max 1 v.words) (start_word v)) d.vars
 
 -- each variable at 0
 abbrev pub empty_store : Flat → Store

@@ -3,7 +3,7 @@ use Rattle.std.specs.Prelude.{◌≡◌, ℕ, true, List, [], ◌++◌, Some, Co
 use Rattle.el_design.specs.Plain.{Expr, Statement, Assign, FlatNet, Flat}
 use Rattle.el_design.specs.Names.{variables_in, nets_in, own_targets, own_expressions, target_variables}
 use Rattle.el_design.specs.InPlace.{Meets}
-use Rattle.el_design.specs.Turns.{formals_in}
+use Rattle.el_design.specs.Turns.{formals_in, outputs_in}
 
 -- the variables that a statement itself writes by blocking assignment: results and outputs, input formals at the enable and output arguments at the return are written so
 abbrev pub blocking_writes : Flat → Statement → List ℕ
@@ -26,9 +26,13 @@ pub data Writes (d : Flat) (p v : ℕ) : Type 0 where
   by_blocking : WritesBlocking d p v → Writes d p v
   by_nonblocking : WritesNonblocking d p v → Writes d p v
 
--- a process reads a variable in place: an expression or index names it. A function's formals and locals count for nobody.
+-- the variables that a statement itself reads: its expressions and indexes name them, and output formals are read at the return
+abbrev pub read_by : Flat → Statement → List ℕ
+read_by d x = flat_map variables_in (own_expressions x) ++ outputs_in d x
+
+-- a process reads a variable in place. A function's formals and locals count for nobody.
 pub data Reads (d : Flat) (p v : ℕ) : Type 0 where
-  reads : {open_marks : List ℕ} {x : Statement} → Meets d p open_marks x → Contains (flat_map variables_in (own_expressions x)) v → Reads d p v
+  reads : {open_marks : List ℕ} {x : Statement} → Meets d p open_marks x → Contains (read_by d x) v → Reads d p v
 
 pub data ReadsNet (d : Flat) (p n : ℕ) : Type 0 where
   reads_net : {open_marks : List ℕ} {x : Statement} → Meets d p open_marks x → Contains (flat_map nets_in (own_expressions x)) n → ReadsNet d p n

@@ -21,7 +21,7 @@ holds d e = is_up (value d (fixed d) e)
 
 -- ---- `for (v = c; v REL c; v = v + c)`, or the same with `v - c`; each c is constant
 
--- an expression that is a variable; that it is brought to another width makes no difference
+-- an expression that is a variable; a name that is brought to another width is the name still
 abbrev pub is_variable : ℕ → Expr → Bool
 is_variable v (Variable s w) = w == v
 is_variable v (Resize s e) = is_variable v e
@@ -51,10 +51,15 @@ is_step_of v (Binary s op a b) = is_advance op && is_variable v a && is_constant
 is_step_of v (Resize s e) = is_step_of v e
 is_step_of v e = false
 
--- the formals of the task of an enable
+-- the input formals of the task of an enable
 abbrev pub formals_in : Flat → Statement → List ℕ
 formals_in d (Enable at t ins outs) = unwrap_or (option_map (λ x. x.ins) (slice_get d.tasks t)) []
 formals_in d s = []
+
+-- and its output formals
+abbrev pub outputs_in : Flat → Statement → List ℕ
+outputs_in d (Enable at t ins outs) = unwrap_or (option_map (λ x. x.outs) (slice_get d.tasks t)) []
+outputs_in d s = []
 
 -- the variables that a statement itself stores to: by its targets, and a task's input formals
 abbrev pub stored_by : Flat → Statement → List ℕ

@@ -1,11 +1,16 @@
 //! Laws of the definitions, each the contract of a function that does nothing.
-ghost use Rattle.std.specs.Prelude.{List};
-ghost use Rattle.el_design.specs.Plain.{Flat};
+ghost use Rattle.xt_bits.specs.Word.{Word};
+ghost use Rattle.el_design.specs.Plain.{Statement, Flat};
+ghost use Rattle.el_design.specs.Store.{Store};
+ghost use Rattle.std.specs.Prelude.{List, ℕ};
+ghost use Rattle.el_design.specs.Checked.{IsChecked};
 ghost use Rattle.el_design.specs.Value.{Scene};
 ghost use Rattle.el_design.specs.Stack.{Work};
 ghost use Rattle.el_design.specs.Act.{Process};
 ghost use Rattle.el_design.specs.Queue.{Config};
-ghost use Rattle.el_design.specs.Laws.{StacksSettle, ProcessesRun, EventsAreListed};
+ghost use Rattle.el_design.specs.Bodies.{BodyRuns};
+ghost use Rattle.el_design.specs.Places.{WalksInPlace};
+ghost use Rattle.el_design.specs.Laws.{StacksSettle, ProcessesRun, EventsAreListed, EveryEdgeEnds, AtMostUEvents};
 
 /// Steps that are no events lead from each stack to the one that `settle` gives, which is still.
 pub fn stacks_settle()
@@ -20,4 +25,24 @@ pub fn processes_run()
 /// The events that may be taken are those of processes, then of nets, and updates where there is none of these.
 pub fn events_are_listed()
     ensures { (d : Flat) → (c : Config) → EventsAreListed d c }
+{}
+
+/// The body of a function, run by its structure, leaves the store that the events of a stack with it leave.
+pub fn bodies_run()
+    ensures { (d : Flat) → (call : ℕ → List Word → Word) → (s : Statement) → (k : List Work) → (store : Store) → BodyRuns d call s k store }
+{}
+
+/// What a walk from a statement comes to stands in it in place, with those marks open that the walk's stack has open.
+pub fn walks_in_place()
+    ensures { (d : Flat) → (marks : List ℕ) → (s : Statement) → (k : List Work) → WalksInPlace d marks s k }
+{}
+
+/// In a design that breaks no rule every edge ends, whatever events are taken: at rest or starved.
+pub fn every_edge_ends()
+    ensures { (d : Flat) → (order : List ℕ) → IsChecked d order → EveryEdgeEnds d }
+{}
+
+/// In a design that breaks no rule no process has more than `U` events in an edge, whatever events are taken.
+pub fn at_most_u_events()
+    ensures { (d : Flat) → (order : List ℕ) → IsChecked d order → AtMostUEvents d }
 {}

@@ -10,6 +10,9 @@ mod statements;
 
 pub use designs::{Design, Func, Import, Net, Pin, Port, Proc, Source, Task, Var};
 pub use expressions::{BinOp, Kind, Pick, TExpr, Target, UnOp};
-pub use laws::{events_are_listed, processes_run, stacks_settle};
+pub use laws::{
+    at_most_u_events, bodies_run, events_are_listed, every_edge_ends, processes_run, stacks_settle,
+    walks_in_place,
+};
 pub use orders::{Checked, NetOrder};
 pub use statements::{Arm, Stmt};

@@ -2,6 +2,7 @@
 ghost use Rattle.std.specs.Prelude.{◌≡◌};
 ghost use Rattle.el_design.specs.View.{flat_of};
 ghost use Rattle.el_design.specs.Checked.{IsChecked};
+ghost use Rattle.el_design.specs.Laws.{EveryOrder};
 
 use crate::designs::Design;
 use sqlite_items::Items;
@@ -92,5 +93,12 @@ impl Checked {
         ensures checked { IsChecked (flat_of self.now.0) self.now.1 }
     {
         &self.order
+    }
+
+    /// All runs have one trace, whatever events are taken: a law, for which nothing is done.
+    pub fn every_order(&self)
+        ensures { EveryOrder (flat_of self.now.0) }
+    {
+        let _ = &self.design;
     }
 }

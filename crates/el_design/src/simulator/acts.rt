@@ -1,5 +1,5 @@
 //! The event of a process.
-ghost use Rattle.std.specs.Prelude.{◌≡◌, [], ◌∷◌, ◌++◌, List, unwrap_or, map, zip, OnOk, IfOk, Bool, true, false, Some, None, option_map, get_or, slice_get};
+ghost use Rattle.std.specs.Prelude.{◌≡◌, [], ◌∷◌, ◌++◌, List, unwrap_or, map, zip, OnOk, IfOk, MatchResult, Bool, true, false, Some, None, option_map, get_or, slice_get};
 ghost use Rattle.xt_bits.specs.Word.{word};
 ghost use Rattle.el_design.specs.Act as spec;
 ghost use Rattle.el_design.specs.Assign as assigns;
@@ -8,7 +8,7 @@ ghost use Rattle.el_design.specs.Stack as stacks;
 ghost use Rattle.el_design.specs.Store as stores;
 ghost use Rattle.el_design.specs.Plain as plain;
 ghost use Rattle.el_design.specs.View.{expr_of, lvalue_of, statement_of, task_of, arm_of, arms_of};
-ghost use Rattle.el_design.specs.Simulated.{flat_seen, scene_seen, stack_seen, write_seen, writes_seen, process_seen, acted_seen, reply_seen};
+ghost use Rattle.el_design.specs.Simulated.{flat_seen, scene_seen, work_seen, stack_seen, write_seen, writes_seen, process_seen, acted_seen, reply_seen};
 
 use crate::designs::{Import, Port};
 use crate::expressions::{TExpr, Target};
@@ -502,7 +502,7 @@ fn copied_out(
 #[tactic(auto, using(crate::proofs::Lookups::got_task))]
 fn enable<'a>(
     alloc: Global,
-    scene: &Scene<'a>,
+    scene: &Scene<'a, '_>,
     process: &mut Process<'a>,
     at: Place,
     task: u32,
@@ -535,14 +535,12 @@ fn leave(
     scene: &Scene,
     process: &mut Process,
     at: Place,
-    mark: u32,
     formals: &[u32],
     outs: &[Target],
     budget: u64,
 ) -> Result<Acted, Trouble>
-    ensures { IfOk result (λ a. Some (acted_seen process.new a) ≡ spec.act_top (flat_seen scene.now) (scene_seen scene.now) (process_seen process.old) (stacks.Return at mark (zip formals.now (map lvalue_of outs.now)) ∷ stack_seen process.old.stack)) }
+    ensures { IfOk result (λ a. Some (acted_seen process.new a) ≡ spec.ran at (spec.copied_out (flat_seen scene.now) (scene_seen scene.now) (zip formals.now (map lvalue_of outs.now))) (process_seen process.old) (stack_seen process.old.stack)) }
 {
-    let _ = mark;
     let writes = copied_out(alloc, scene, formals, outs, budget)?;
     ran(at, writes, process, budget)
 }
@@ -751,4 +749,194 @@ fn take_reply(
             }))
         }
     }
+}
+
+fn done(acted: Result<Acted, Trouble>) -> Result<Option<Acted>, Trouble>
+    ensures { MatchResult acted (λ a. result ≡ Ok (Some a)) (λ e. result ≡ Err e) }
+{
+    match acted {
+        Ok(acted) => Ok(Some(acted)),
+        Err(trouble) => Err(trouble),
+    }
+}
+
+/// The event of a statement on top of the process's stack, None where it has none.
+fn act_do<'a>(
+    alloc: Global,
+    scene: &Scene<'a, '_>,
+    process: &mut Process<'a>,
+    statement: &'a Stmt,
+    budget: u64,
+) -> Result<Option<Acted>, Trouble>
+    ensures { IfOk result (λ a. option_map (acted_seen process.new) a ≡ spec.act_do (flat_seen scene.now) (scene_seen scene.now) (process_seen process.old) (stack_seen process.old.stack) (statement_of statement.now)) }
+{
+    match statement {
+        Stmt::Null => Ok(None),
+        Stmt::Block { .. } => Ok(None),
+        Stmt::Forever { .. } => Ok(None),
+        Stmt::Wait { .. } => Ok(None),
+        Stmt::Assign {
+            at,
+            to,
+            value,
+            held,
+        } => done(assign(alloc, scene, process, *at, to, value, *held, budget)),
+        Stmt::If { at, test, yes, no } => {
+            done(branch(
+                alloc,
+                scene,
+                process,
+                *at,
+                test,
+                yes.get(),
+                no.get(),
+                budget,
+            ))
+        }
+        Stmt::Case {
+            at,
+            on,
+            arms,
+            other,
+        } => done(choose(
+            alloc,
+            scene,
+            process,
+            *at,
+            on,
+            arms.as_slice(),
+            other.get(),
+            budget,
+        )),
+        Stmt::For {
+            at,
+            var,
+            first,
+            test,
+            next,
+            body,
+        } => done(start_for(
+            alloc,
+            scene,
+            process,
+            *at,
+            *var,
+            first,
+            test,
+            next,
+            body.get(),
+            budget,
+        )),
+        Stmt::While { at, test, body } => {
+            done(test_while(
+                alloc,
+                scene,
+                process,
+                *at,
+                statement,
+                test,
+                body.get(),
+                budget,
+            ))
+        }
+        Stmt::Repeat { at, count, body } => {
+            done(start_repeat(alloc, scene, process, *at, count, body.get(), budget))
+        }
+        Stmt::Enable {
+            at,
+            task,
+            ins,
+            outs,
+        } => done(enable(
+            alloc,
+            scene,
+            process,
+            *at,
+            *task,
+            ins.as_slice(),
+            outs.as_slice(),
+            budget,
+        )),
+        Stmt::Disable { at, mark } => done(disable(alloc, scene, process, *at, *mark, budget)),
+        Stmt::Host {
+            at,
+            import,
+            ins,
+            result,
+            outs,
+        } => done(ask(
+            alloc,
+            scene,
+            process,
+            *at,
+            *import,
+            ins.as_slice(),
+            result,
+            outs.as_slice(),
+            budget,
+        )),
+    }
+}
+
+/// The event of a process whose stack had this work on top.
+#[tactic(auto, using(crate::proofs::Acting::rest_acts))]
+fn act_top<'a>(
+    alloc: Global,
+    scene: &Scene<'a, '_>,
+    process: &mut Process<'a>,
+    top: Work<'a>,
+    budget: u64,
+) -> Result<Option<Acted>, Trouble>
+    ensures { IfOk result (λ a. option_map (acted_seen process.new) a ≡ spec.act_top (flat_seen scene.now) (scene_seen scene.now) (process_seen process.old) (work_seen top.entry ∷ stack_seen process.old.stack)) }
+{
+    match top {
+        Work::Do(statement) => act_do(alloc, scene, process, statement, budget),
+        Work::Rest(_) => Ok(None),
+        Work::Again { .. } => Ok(None),
+        Work::End(_) => Ok(None),
+        Work::Return {
+            at,
+            mark: _,
+            formals,
+            outs,
+        } => done(leave(alloc, scene, process, at, formals, outs, budget)),
+        Work::Test {
+            at,
+            var,
+            test,
+            next,
+            body,
+        } => done(test_for(alloc, scene, process, at, var, test, next, body, budget)),
+        Work::Step {
+            at,
+            var,
+            test,
+            next,
+            body,
+        } => done(step_for(alloc, scene, process, at, var, test, next, body, budget)),
+        Work::Turns { at, left, body } => done(turn(alloc, process, at, left, body, budget)),
+        Work::Await {
+            at,
+            import,
+            result,
+            outs,
+        } => take_reply(alloc, scene, process, at, import, result, outs, budget),
+    }
+}
+
+/// The event of a process, if it has one; the process is then as the event leaves it.
+#[tactic(auto, using(crate::proofs::Acting::top_same))]
+pub fn act<'a>(
+    alloc: Global,
+    scene: &Scene<'a, '_>,
+    process: &mut Process<'a>,
+    budget: u64,
+) -> Result<Option<Acted>, Trouble>
+    ensures { IfOk result (λ a. option_map (acted_seen process.new) a ≡ spec.act (flat_seen scene.now) (scene_seen scene.now) (process_seen process.old)) }
+{
+    if process.stack.is_empty() {
+        return Ok(None);
+    }
+    let top = process.stack.remove(0);
+    act_top(alloc, scene, process, top, budget)
 }

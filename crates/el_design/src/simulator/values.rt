@@ -19,10 +19,10 @@ use xt_bits::Bits;
 
 /// What an expression is evaluated in.
 #[derive(Clone, Copy)]
-pub struct Scene<'a> {
-    pub design: &'a Design,
-    pub nets: &'a [Bits],
-    pub store: &'a [Items<Bits>],
+pub struct Scene<'d, 's> {
+    pub design: &'d Design,
+    pub nets: &'s [Bits],
+    pub store: &'s [Items<Bits>],
 }
 
 /// The word at a place of a list, 0 where there is none.
