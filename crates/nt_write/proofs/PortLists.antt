@@ -66,7 +66,7 @@ host_lines (h ∷ hs) =
     ∙ ap (λ t. host_output_lines h ++ t) (host_lines hs)
 
 -- of all ports but the first
-other_lines : (outs : List Wire) (hs : List HostLine) → map (λ q. output_line q.0 q.1) (zip (map (λ o. o.width) outs ++ flat_map host_port_widths hs) (map (λ o. o.name) outs ++ flat_map host_port_names hs)) ≡ map (λ o. output_line o.width o.name) outs ++ flat_map host_output_lines hs
+pub other_lines : (outs : List Wire) (hs : List HostLine) → map (λ q. output_line q.0 q.1) (zip (map (λ o. o.width) outs ++ flat_map host_port_widths hs) (map (λ o. o.name) outs ++ flat_map host_port_names hs)) ≡ map (λ o. output_line o.width o.name) outs ++ flat_map host_output_lines hs
 other_lines outs hs =
     ap (λ t. map (λ q. output_line q.0 q.1) t) (zip-append (map (λ o. o.width) outs) (flat_map host_port_widths hs) (map (λ o. o.name) outs) (flat_map host_port_names hs) (length_maps (λ o. o.width) (λ o. o.name) outs) ∙ ap (λ t. t ++ zip (flat_map host_port_widths hs) (flat_map host_port_names hs)) (zip-map (λ o. o.width) (λ o. o.name) outs))
     ∙ map-append (λ q. output_line q.0 q.1) (map (λ o. (o.width, o.name)) outs) (zip (flat_map host_port_widths hs) (flat_map host_port_names hs))

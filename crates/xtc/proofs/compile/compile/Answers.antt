@@ -1,0 +1,12 @@
+use Rattle.std.proofs.Common.{sym, subst}
+use Rattle.xtc.specs.Form.{IsOfForm}
+use Rattle.xtc.proofs.OfForm.{of_form}
+use Rattle.xtc.proofs.Compiling.{compiled}
+use Rattle.xtc.proofs.Sums.{if_ok}
+use Rattle.xtc.proofs.compile.compile.Goals as goal
+
+pub netlist-requires : goal.netlist-requires
+netlist-requires c = subst IsOfForm (sym c.in_ok-design.ensures) (of_form c.args.source.now c.requires)
+
+pub returns : goal.returns
+returns c = if_ok _ _ _ (λ n made. compiled c.args.source.now c.requires c.in_ok-design.design c.in_ok-design.ensures n made) c.netlist.ensures

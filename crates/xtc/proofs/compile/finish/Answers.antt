@@ -1,0 +1,33 @@
+use Rattle.std.proofs.Common.{refl, ap, ◌∙◌}
+use Rattle.nt_core.specs.Parts.{Parts}
+use Rattle.xtc.proofs.Shells.{shell_of_form}
+use Rattle.xtc.proofs.compile.finish.Goals as goal
+
+pub finish-requires : goal.finish-requires
+finish-requires c =
+    shell_of_form c.args.design.now _ c.args.map.now c.args.edge c.requires.form
+    (record {
+      version = refl;
+      processes = c.in_ok-processes.ensures ∙ c.len.ensures;
+      functions = c.new.ensures.items;
+      inputs = c.in_ok-inputs.ensures;
+      outputs = c.in_ok-outputs.ensures;
+      hosts = c.new-2.ensures.items;
+      registers = c.in_ok-registers.ensures.values;
+      kept = c.in_ok-registers.ensures.kept;
+      memories = c.new-3.ensures.items;
+      writes = c.new-4.ensures.items;
+    })
+    c.requires.nodes c.requires.map c.requires.edge c.in_ok-drives.ensures c.requires.nexts
+
+pub returns : goal.returns
+returns c =
+    let is = c.finish.ensures in
+    record {
+      with_nodes = ap (λ (n : Parts). n.nodes) is;
+      outputs = ap (λ (n : Parts). n.outputs) is ∙ c.in_ok-outputs.ensures;
+      hosts = ap (λ (n : Parts). n.hosts) is ∙ c.new-2.ensures.items;
+      registers = ap (λ (n : Parts). n.registers) is ∙ c.in_ok-registers.ensures.values;
+      drives = ap (λ (n : Parts). n.drives) is ∙ c.in_ok-drives.ensures;
+      with_nexts = ap (λ (n : Parts). n.nexts) is;
+    }

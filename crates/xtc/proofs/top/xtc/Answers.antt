@@ -1,0 +1,12 @@
+use Rattle.std.proofs.Common.{rules, ◌≡◌, Option, None, subst, sym}
+use Rattle.xtc.specs.Command.{Request, request_of}
+use Rattle.std.specs.Prelude.{codes}
+use Rattle.xtc.specs.declared.status.Status.TheVariants as statuses
+use Rattle.xtc.specs.Answer.{on, Leaves, usage}
+use Rattle.xtc.proofs.Leaving.{leaves_of_tells}
+use Rattle.xtc.proofs.top.xtc.Goals as goal
+
+pub returns-in-Ok-None-clause-leaves : goal.returns-in-Ok-None-clause-leaves
+returns-in-Ok-None-clause-leaves g c =
+    let out = on (g.S.Sink.written c.args.out.now) (g.S.Sink.faults c.args.out.now) in let old = on (g.S.Sink.written c.args.notes.now) (g.S.Sink.faults c.args.notes.now) in let new = on (g.S.Sink.written c.tell.new.notes) (g.S.Sink.faults c.tell.new.notes) in
+    subst (λ asked. Leaves (g.F.Files.held c.args.files.now) asked out out old new c.tell.result) (sym {A = Option Request} {a = request_of c.args.words.now} {b = None} (search rules)) (leaves_of_tells (g.F.Files.held c.args.files.now) None statuses.Usage (codes "usage\n") out old new c.tell.result usage c.tell.ensures.tells)

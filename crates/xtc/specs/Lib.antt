@@ -1,0 +1,10 @@
+pub mod Status
+pub mod Command
+pub mod Note
+pub mod Answer
+pub mod Source
+pub mod Flatten
+pub mod Form
+pub mod Machine
+pub mod Nodes
+pub mod Compiled
