@@ -1,12 +1,12 @@
 -- The tokens that an expression begins with.
-use Rattle.std.proofs.Common.{◌≡◌, ◌≤◌, ◌<◌, ℕ, zero, suc, ◌+◌, List, Option, Some, None, Bool, true, false, length, slice_get, refl, sym, ap, subst, arith, rules}
+use Rattle.std.proofs.Common.{◌≡◌, ◌≤◌, ◌<◌, ℕ, List, Option, Some, None, Bool, true, false, slice_get, refl, arith}
 use Rattle.std.proofs.lemmas.Bool.{both_ways}
 use Rattle.vl_tree.specs.declared.lexemes.Lexeme.{Lexeme}
 use Rattle.vl_tree.specs.declared.lexemes.Lexeme.TheVariants as lex
 use Rattle.vl_tree.specs.declared.operators.UnOp.{UnOp}
 use Rattle.vl_tree.specs.declared.exprs.Expr.{Expr}
 use Rattle.vl_tree.specs.declared.exprs.Select.{Select}
-use Rattle.vl_tree.specs.Places.{At, IsName, name_in}
+use Rattle.vl_tree.specs.Places.{At, name_in}
 use Rattle.vl_tree.specs.Operators.{unary}
 use Rattle.vl_tree.specs.Expressions.{IsLevel, IsExprs, IsArgs, IsSelects, IsSelect}
 use Rattle.vl_expr.specs.declared.classes.Start.{Start}
@@ -60,7 +60,7 @@ level_begins (IsLevel.sized a b) = at_begins a refl
 level_begins (IsLevel.based a) = at_begins a refl
 level_begins (IsLevel.decimal a) = at_begins a refl
 level_begins (IsLevel.name a b) = name_begins _ a
-level_begins (IsLevel.call a b) = name_begins _ a
+level_begins (IsLevel.call a b c d) = name_begins _ a
 level_begins (IsLevel.to_signed a b c d) = at_begins a refl
 level_begins (IsLevel.to_unsigned a b c d) = at_begins a refl
 level_begins (IsLevel.parens a b c) = at_begins a refl
@@ -98,7 +98,7 @@ mutual
   level_moves (IsLevel.based a) = omega arith
   level_moves (IsLevel.decimal a) = omega arith
   level_moves (IsLevel.name a b) = let p = selects_move b in omega arith
-  level_moves (IsLevel.call a b) = let p = args_move b in omega arith
+  level_moves (IsLevel.call a b c d) = let p = exprs_move c in omega arith
   level_moves (IsLevel.to_signed a b c d) = let p = level_moves c in omega arith
   level_moves (IsLevel.to_unsigned a b c d) = let p = level_moves c in omega arith
   level_moves (IsLevel.parens a b c) = let p = level_moves b in omega arith
@@ -108,10 +108,6 @@ mutual
   pub exprs_move : {ls : List Lexeme} {n i j : ℕ} {es : List Expr} → IsExprs ls n i j es → i < j
   exprs_move (IsExprs.last_expr a) = level_moves a
   exprs_move (IsExprs.more_exprs a b c) = let p = level_moves a in let q = exprs_move c in omega arith
-
-  pub args_move : {ls : List Lexeme} {n i j : ℕ} {es : List Expr} → IsArgs ls n i j es → i < j
-  args_move (IsArgs.no_args a b) = omega arith
-  args_move (IsArgs.some_args a b c) = let p = exprs_move b in omega arith
 
   pub selects_move : {ls : List Lexeme} {n i j : ℕ} {ss : List Select} → IsSelects ls n i j ss → i ≤ j
   selects_move IsSelects.no_select = omega arith
@@ -123,3 +119,7 @@ mutual
   select_moves (IsSelect.part a b c d f) = let p = level_moves b in let q = level_moves d in omega arith
   select_moves (IsSelect.up a b c d f) = let p = level_moves b in let q = level_moves d in omega arith
   select_moves (IsSelect.down a b c d f) = let p = level_moves b in let q = level_moves d in omega arith
+
+pub args_move : {ls : List Lexeme} {n i j : ℕ} {es : List Expr} → IsArgs ls n i j es → i < j
+args_move (IsArgs.no_args a b) = omega arith
+args_move (IsArgs.some_args a b c) = let p = exprs_move b in omega arith

@@ -1,26 +1,11 @@
 -- How reading comes to a part of the grammar, from how it comes to the parts of that part.
-use Rattle.std.proofs.Common.{◌≡◌, ◌≤◌, ◌<◌, ◌==◌, ◌&&◌, ℕ, zero, suc, ◌+◌, max, List, [], ◌∷◌, ◌++◌, Option, Some, None, Bool, true, false, cond, Result, Ok, Err, slice_get, length, nat_le, refl, sym, ap, subst, ◌∙◌, arith, rules}
-use Rattle.std.proofs.lemmas.Bool.{eqb-true, le-leb, ne_eqb, and_right, both_ways}
+use Rattle.std.proofs.Common.{◌≡◌, ◌≤◌, ◌==◌, ℕ, zero, suc, ◌+◌, List, Option, Bool, true, false, Ok, slice_get, refl, ◌∙◌, arith}
+use Rattle.std.proofs.lemmas.Bool.{eqb-true}
 use Rattle.vl_tree.specs.declared.lexemes.Lexeme.{Lexeme}
-use Rattle.vl_tree.specs.declared.lexemes.Lexeme.TheVariants as lex
-use Rattle.vl_tree.specs.declared.operators.Sign.{Sign}
-use Rattle.vl_tree.specs.declared.operators.Sign.TheVariants as sign
-use Rattle.vl_tree.specs.declared.operators.UnOp.{UnOp}
-use Rattle.vl_tree.specs.declared.operators.BinOp.{BinOp}
 use Rattle.vl_tree.specs.declared.exprs.Expr.{Expr}
-use Rattle.vl_tree.specs.declared.exprs.Expr.TheVariants as expr
-use Rattle.vl_tree.specs.declared.exprs.Select.{Select}
-use Rattle.vl_tree.specs.declared.exprs.Select.TheVariants as select
-use Rattle.vl_tree.specs.Places.{At, IsName}
-use Rattle.vl_tree.specs.Operators.{unary, binary}
 use Rattle.vl_expr.specs.declared.found.Found.{Found}
-use Rattle.vl_expr.specs.declared.classes.Start.{Start}
-use Rattle.vl_expr.specs.declared.classes.Start.TheVariants as start
-use Rattle.vl_expr.specs.Classes.{start_of, between_of, unary_of, operator_of, is_at, is_in}
-use Rattle.vl_expr.specs.Reading
-use Rattle.vl_expr.specs.Reading.{Reading, Reader, ◌>>=◌, node, single, added, reader_of, level_of, tail_of}
-use Rattle.vl_expr.proofs.Results.{past_at, in_is_true}
-use Rattle.vl_expr.proofs.Follow.{Stops, lower, zero_stops, rank, rank_binary, binary_within, no_operator, operator_there, no_question}
+use Rattle.vl_expr.specs.Reading.{Reading, reader_of, level_of, tail_of}
+use Rattle.vl_expr.proofs.Follow.{Stops, lower, no_operator}
 
 -- what was read
 abbrev pub found : {X : Type 0} → X → ℕ → ℕ → Found X

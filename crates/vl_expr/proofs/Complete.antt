@@ -1,25 +1,23 @@
 -- What is in the grammar is read, and so it is the one tree there.
-use Rattle.std.proofs.Common.{◌≡◌, ◌≤◌, ◌<◌, ℕ, zero, suc, ◌+◌, ◌==◌, max, List, [], ◌∷◌, Option, Some, None, Bool, true, false, Ok, Err, slice_get, length, refl, sym, ap, lit<, arith, rules}
+use Rattle.std.proofs.Common.{◌≡◌, ◌≤◌, ℕ, suc, ◌+◌, ◌==◌, List, Option, Some, Bool, true, false, slice_get, length, refl, lit<, arith}
 use Rattle.vl_tree.specs.declared.lexemes.Lexeme.{Lexeme}
 use Rattle.vl_tree.specs.declared.lexemes.Lexeme.TheVariants as lex
 use Rattle.vl_tree.specs.declared.operators.Sign.TheVariants as sign
 use Rattle.vl_tree.specs.declared.exprs.Expr.{Expr}
 use Rattle.vl_tree.specs.declared.exprs.Select.{Select}
-use Rattle.vl_tree.specs.Places.{At}
 use Rattle.vl_tree.specs.declared.operators.BinOp.{BinOp}
 use Rattle.vl_tree.specs.Operators.{binary}
 use Rattle.std.proofs.lemmas.Bool.{eqb-true}
 use Rattle.vl_tree.specs.Expressions.{IsLevel, IsExprs, IsArgs, IsSelects, IsSelect}
 use Rattle.vl_expr.specs.declared.found.Found.{Found}
-use Rattle.vl_expr.specs.declared.classes.Start.TheVariants as start
-use Rattle.vl_expr.specs.Classes.{is_at, is_in}
+use Rattle.vl_expr.specs.Classes.{is_at}
 use Rattle.vl_expr.specs.Reading
 use Rattle.vl_expr.specs.Reading.{Reading, reader_of}
 use Rattle.vl_expr.proofs.Follow.{Stops, Closes, rank_binary, binary_within, no_paren}
-use Rattle.vl_expr.proofs.Begins.{level_moves, exprs_begin, args_open, select_opens, no_close}
+use Rattle.vl_expr.proofs.Begins.{level_moves, exprs_begin, select_opens, no_close}
 use Rattle.vl_expr.proofs.Comes.{Reads, Claim, Loose, loose, loose_below, loosest_by}
 use Rattle.vl_expr.proofs.Primaries.{stops_at, not_at, unary_comes, sized_comes, based_comes, decimal_comes, name_comes, call_comes, parens_comes, sign_comes}
-use Rattle.vl_expr.proofs.Lists.{index_reads, part_reads, up_reads, down_reads, no_select_reads, one_select_reads, two_selects_read, Further, last_further, more_further, Starts, last_starts, more_start, no_args_read, some_args_read, concat_comes, replicate_comes}
+use Rattle.vl_expr.proofs.Lists.{index_reads, part_reads, up_reads, down_reads, no_select_reads, one_select_reads, two_selects_read, Further, last_further, more_further, Starts, last_starts, more_start, exprs_read, no_args_read, some_args_read, concat_comes, replicate_comes}
 use Rattle.vl_expr.proofs.Layers.{tighter_comes, binary_comes, choice_comes}
 
 loose_at : (l : ℕ) {o : Option Lexeme} {x : Lexeme} → o ≡ Some x → Stops l (Some x) → Loose l o
@@ -70,7 +68,7 @@ module _ (ls : List Lexeme) where
     level_comes (IsLevel.based h) s = based_comes ls h
     level_comes (IsLevel.decimal h) s = decimal_comes ls h s.stops
     level_comes (IsLevel.name h a) s = name_comes ls h (selects_no_paren a s.stops) (selects_read a s.stops)
-    level_comes (IsLevel.call h a) s = call_comes ls h (args_open a) (args_read a)
+    level_comes (IsLevel.call h o a k) s = call_comes ls h o (λ n le. exprs_read ls (exprs_start a (closes_paren k) n le)) k
     level_comes (IsLevel.to_signed h p a k) s =
         sign_comes ls lex.ToSigned sign.Signed refl refl h p (level_comes a (loose_at 11 k (record { above = lit< tt }))) k
     level_comes (IsLevel.to_unsigned h p a k) s =
@@ -91,11 +89,6 @@ module _ (ls : List Lexeme) where
     exprs_start (IsExprs.more_exprs a h b) k n le =
         more_start ls (level_comes a (loose_at 11 h (record { above = lit< tt }))) h (further_exprs b k) n le
 
-    pub args_read : {m i j : ℕ} {es : List Expr} → IsArgs ls m i j es → (n : ℕ) → m ≤ n → Reads (Reading.args_of ls (reader_of ls n) i) es j m
-    args_read {i = i} (IsArgs.no_args h k) n le = no_args_read ls i h k n le
-    args_read {i = i} (IsArgs.some_args h a k) n le =
-        some_args_read ls i h (no_close _ (exprs_begin a)) (exprs_start a (closes_paren k)) k n le
-
     pub selects_read : {m i j : ℕ} {ss : List Select} → IsSelects ls m i j ss → Stops 0 (slice_get ls j) → (n : ℕ) → m ≤ n →
         Reads (Reading.selects_of ls (reader_of ls n) i) ss j m
     selects_read IsSelects.no_select s n le = no_select_reads ls s n le
@@ -110,3 +103,8 @@ module _ (ls : List Lexeme) where
         up_reads ls h (level_comes a (loose_at 11 c (record { above = lit< tt }))) c (level_comes b (loose_at 11 k (record { above = lit< tt }))) k n le
     select_reads (IsSelect.down h a c b k) n le =
         down_reads ls h (level_comes a (loose_at 11 c (record { above = lit< tt }))) c (level_comes b (loose_at 11 k (record { above = lit< tt }))) k n le
+
+  pub args_read : {m i j : ℕ} {es : List Expr} → IsArgs ls m i j es → (n : ℕ) → m ≤ n → Reads (Reading.args_of ls (reader_of ls n) i) es j m
+  args_read {i = i} (IsArgs.no_args h k) n le = no_args_read ls i h k n le
+  args_read {i = i} (IsArgs.some_args h a k) n le =
+      some_args_read ls i h (no_close _ (exprs_begin a)) (exprs_start a (closes_paren k)) k n le

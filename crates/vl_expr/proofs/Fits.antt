@@ -1,5 +1,5 @@
 -- What is read is not deeper than it may be.
-use Rattle.std.proofs.Common.{◌≡◌, ◌≤◌, ◌==◌, ◌&&◌, ℕ, zero, suc, ◌+◌, max, List, [], ◌∷◌, Option, Some, None, Bool, true, false, Ok, Err, slice_get, length, nat_le, refl, subst, arith}
+use Rattle.std.proofs.Common.{◌≡◌, ◌≤◌, ◌==◌, ◌&&◌, ℕ, zero, suc, ◌+◌, List, Option, Some, None, Bool, true, false, Ok, slice_get, length, nat_le, subst, arith}
 use Rattle.std.proofs.lemmas.Bool.{leb-true}
 use Rattle.vl_tree.specs.declared.lexemes.Lexeme.{Lexeme}
 use Rattle.vl_tree.specs.declared.lexemes.Lexeme.TheVariants as lex
@@ -97,7 +97,10 @@ module _ (ls : List Lexeme) (below : Reader) (n : ℕ) (fits : Fits below n) whe
 
   name_fits : (at : ℕ) (p : Found Expr) (call : Bool) → Reading.name_by ls below at call ≡ Ok p → p.depth ≤ suc n
   name_fits at p true e =
-      let b = bind_ok _ _ p e in let f = args_fit (at + 1) b.val b.first in same_depth _ p (ok_one b.rest) (omega arith)
+      let b = bind_ok _ _ p e in
+      let f = exprs_fit (at + 2) b.val b.first in
+      let t = past_ok ls b.val.end lex.CloseParen _ p b.rest in
+      same_depth _ p (ok_one t.rest) (omega arith)
   name_fits at p false e =
       let b = bind_ok _ _ p e in let f = selects_fit (at + 1) b.val b.first in same_depth _ p (ok_one b.rest) (omega arith)
 

@@ -1,5 +1,5 @@
 -- What may follow an expression of a level without going on with it.
-use Rattle.std.proofs.Common.{◌≡◌, ◌==◌, ◌≤◌, ◌<◌, ℕ, zero, suc, List, Option, Some, None, Bool, true, false, cond, slice_get, nat_le, refl, sym, ◌∙◌, ap, lit<, arith, rules}
+use Rattle.std.proofs.Common.{◌≡◌, ◌≤◌, ◌<◌, ℕ, zero, suc, Option, Some, None, Bool, true, false, nat_le, refl, sym, ◌∙◌, ap, lit<, arith}
 use Rattle.std.proofs.lemmas.Bool.{ne_eqb, eq-eqb, leb-true, both_ways}
 use Rattle.vl_tree.specs.declared.lexemes.Lexeme.{Lexeme}
 use Rattle.vl_tree.specs.declared.lexemes.Lexeme.TheVariants as lex

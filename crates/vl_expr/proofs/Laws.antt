@@ -1,15 +1,14 @@
 -- What is read is an expression of the grammar, what is one is read, and it is the only one there.
-use Rattle.std.proofs.Common.{◌≡◌, ◌≤◌, ℕ, List, Bool, true, false, Result, Ok, Err, slice_get, refl, sym, ap, subst, ◌∙◌, arith}
+use Rattle.std.proofs.Common.{◌≡◌, ◌≤◌, ℕ, max, List, Result, Ok, Err, slice_get, refl, sym, ap, subst, ◌∙◌, arith}
 use Rattle.std.specs.Prelude.{IfOk, MatchResult}
 use Rattle.vl_tree.specs.declared.lexemes.Lexeme.{Lexeme}
 use Rattle.vl_tree.specs.declared.exprs.Expr.{Expr}
-use Rattle.vl_tree.specs.Expressions.{IsExpr, IsExprs, IsArgs, IsSelects, IsWholeExpr, ends_expr}
+use Rattle.vl_tree.specs.Expressions.{IsExpr, IsWholeExpr, ends_expr}
 use Rattle.vl_expr.specs.declared.found.Found.{Found}
 use Rattle.vl_expr.specs.declared.found.ParseError.{ParseError}
 use Rattle.vl_expr.specs.declared.found.ParseError.TheVariants as errors
-use Rattle.vl_expr.specs.Reading.{Reading, Gives, reader_of, expr_of, whole_of}
+use Rattle.vl_expr.specs.Reading.{Reading, Gives, expr_of, whole_of}
 use Rattle.vl_expr.proofs.Results.{ok_one, bind_ok, test_ok}
-use Rattle.vl_expr.proofs.Stands.{Stands}
 use Rattle.vl_expr.proofs.Sound.{reader_sound}
 use Rattle.vl_expr.proofs.Fits.{reader_fits}
 use Rattle.vl_expr.proofs.Follow.{ends_stops}
@@ -27,11 +26,14 @@ module _ (ls : List Lexeme) where
       let s = (reader_sound ls n).level 11 at p e in
       s.at_least n ((reader_fits ls n).level 11 at p e)
 
-  -- an expression before one of the tokens that end one is read
-  pub expr_complete : (n at j : ℕ) (e : Expr) → IsWholeExpr ls n at j e → Reads (expr_of ls n at) e j n
-  expr_complete n at j e w =
+  -- an expression before one of the tokens that end one is read within each depth from its own on
+  expr_read : (n m at j : ℕ) (e : Expr) → n ≤ m → IsWholeExpr ls n at j e → Reads (expr_of ls m at) e j n
+  expr_read n m at j e le w =
       let s = ends_stops (slice_get ls j) w.ends in
-      below_reads ls (level_comes ls w.expr (loose 11 (slice_get ls j) s)) s n (omega arith)
+      below_reads ls (level_comes ls w.expr (loose 11 (slice_get ls j) s)) s m le
+
+  pub expr_complete : (n at j : ℕ) (e : Expr) → IsWholeExpr ls n at j e → Reads (expr_of ls n at) e j n
+  expr_complete n at j e w = expr_read n n at j e (omega arith) w
 
   pub whole_sound : (n at : ℕ) (p : Found Expr) → whole_of ls n at ≡ Ok p → IsWholeExpr ls n at p.end p.tree
   whole_sound n at p e =
@@ -39,10 +41,13 @@ module _ (ls : List Lexeme) where
       let t = test_ok (ends_expr (slice_get ls b.val.end)) (Ok b.val) b.val.end p b.rest in
       subst (λ q. IsWholeExpr ls n at q.end q.tree) (ok_one t.rest) (record { expr = expr_sound n at b.val b.first; ends = t.holds })
 
-  pub whole_complete : (n at j : ℕ) (e : Expr) → IsWholeExpr ls n at j e → Reads (whole_of ls n at) e j n
-  whole_complete n at j e w =
-      let r = expr_complete n at j e w in
+  whole_read : (n m at j : ℕ) (e : Expr) → n ≤ m → IsWholeExpr ls n at j e → Reads (whole_of ls m at) e j n
+  whole_read n m at j e le w =
+      let r = expr_read n m at j e le w in
       record { depth = r.depth; fits = r.fits; is = bind_at _ r.is ∙ if_true (ends_expr (slice_get ls j)) _ _ w.ends }
+
+  pub whole_complete : (n at j : ℕ) (e : Expr) → IsWholeExpr ls n at j e → Reads (whole_of ls n at) e j n
+  whole_complete n at j e w = whole_read n n at j e (omega arith) w
 
   -- what a function of the code answers that gives what reading gives
   pub expr_found : (n at : ℕ) (r : Result (Found Expr) ParseError) → Gives r (expr_of ls n at) → IfOk r (λ p. IsExpr ls n at p.end p.tree)
@@ -71,10 +76,14 @@ module _ (ls : List Lexeme) where
   whole_only n at (Err (errors.NoTree k)) g e j w = let r = whole_complete n at j e w in absurd (not_read (sym g ∙ r.is))
   whole_only n at (Err errors.Memory) g e j w = refl
 
+  -- an expression within a depth is one within each larger depth
+  pub deeper : (n m at j : ℕ) (e : Expr) → n ≤ m → IsWholeExpr ls n at j e → IsWholeExpr ls m at j e
+  deeper n m at j e le w = let r = whole_read n m at j e le w in whole_sound m at (found e j r.depth) r.is
+
   -- two expressions at one place are one
-  pub one_expr : (n at i j : ℕ) (e f : Expr) → IsWholeExpr ls n at i e → IsWholeExpr ls n at j f → (e ≡ f) × (i ≡ j)
-  one_expr n at i j e f v w =
-      let p = whole_complete n at i e v in
-      let q = whole_complete n at j f w in
+  pub one_expr : (n m at i j : ℕ) (e f : Expr) → IsWholeExpr ls n at i e → IsWholeExpr ls m at j f → (e ≡ f) × (i ≡ j)
+  one_expr n m at i j e f v w =
+      let p = whole_read n (max n m) at i e (omega arith) v in
+      let q = whole_read m (max n m) at j f (omega arith) w in
       let same : found e i p.depth ≡ found f j q.depth = ok_one (sym p.is ∙ q.is) in
       (ap (λ r. r.tree) same, ap (λ r. r.end) same)

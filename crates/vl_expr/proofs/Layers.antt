@@ -1,6 +1,6 @@
 -- How reading comes to an expression of a layer, from how it comes to its operands.
-use Rattle.std.proofs.Common.{◌≡◌, ◌≤◌, ◌<◌, ◌==◌, ℕ, zero, suc, ◌+◌, max, List, Some, None, Bool, true, false, cond, Ok, Err, slice_get, nat_le, refl, sym, ap, subst, ◌∙◌, lit<, arith, rules}
-use Rattle.std.proofs.lemmas.Bool.{eqb-true, le-leb, ne_eqb}
+use Rattle.std.proofs.Common.{◌≡◌, ◌≤◌, ◌==◌, ℕ, zero, suc, ◌+◌, max, List, Some, Bool, true, false, Ok, slice_get, refl, sym, ap, ◌∙◌, lit<, arith}
+use Rattle.std.proofs.lemmas.Bool.{le-leb, ne_eqb}
 use Rattle.vl_tree.specs.declared.lexemes.Lexeme.{Lexeme}
 use Rattle.vl_tree.specs.declared.lexemes.Lexeme.TheVariants as lex
 use Rattle.vl_tree.specs.declared.operators.BinOp.{BinOp}
@@ -9,12 +9,12 @@ use Rattle.vl_tree.specs.declared.exprs.Expr.TheVariants as expr
 use Rattle.vl_tree.specs.Places.{At}
 use Rattle.vl_tree.specs.Operators.{binary}
 use Rattle.vl_expr.specs.declared.found.Found.{Found}
-use Rattle.vl_expr.specs.Classes.{operator_of, is_at, is_in}
+use Rattle.vl_expr.specs.Classes.{operator_of}
 use Rattle.vl_expr.specs.Reading
 use Rattle.vl_expr.specs.Reading.{Reading, ◌>>=◌, node, reader_of, level_of, tail_of}
 use Rattle.vl_expr.proofs.Results.{past_at, in_is_true}
-use Rattle.vl_expr.proofs.Follow.{Stops, rank_binary, binary_within, operator_there, no_question, lower}
-use Rattle.vl_expr.proofs.Comes.{found, Reads, Comes, Claim, Loose, loose, loose_below, loosest_by, finish_by, settled, below_reads}
+use Rattle.vl_expr.proofs.Follow.{Stops, binary_within, operator_there, no_question}
+use Rattle.vl_expr.proofs.Comes.{found, Comes, Claim, Loose, loose_below, loosest_by, finish_by, settled, below_reads}
 use Rattle.vl_expr.proofs.Primaries.{bind_at, if_true, if_false, stops_at}
 
 module _ (ls : List Lexeme) where

@@ -1,6 +1,6 @@
 -- How reading comes to selects, lists of expressions and what holds such, from how it comes to their parts.
-use Rattle.std.proofs.Common.{◌≡◌, ◌≤◌, ◌<◌, ◌==◌, ◌&&◌, ℕ, zero, suc, ◌+◌, max, List, [], ◌∷◌, ◌++◌, Option, Some, None, Bool, true, false, cond, Result, Ok, Err, slice_get, length, nat_le, refl, sym, ap, subst, ◌∙◌, append_assoc, lit<, arith, rules}
-use Rattle.std.proofs.lemmas.Bool.{and_right, and_from, both_ways}
+use Rattle.std.proofs.Common.{◌≡◌, ◌≤◌, ℕ, zero, suc, ◌+◌, max, List, [], ◌∷◌, ◌++◌, Some, false, Ok, slice_get, length, refl, ap, ◌∙◌, append_assoc, lit<, arith}
+use Rattle.std.proofs.lemmas.Bool.{and_right, and_from}
 use Rattle.std.proofs.lemmas.Option.{slice_get_within}
 use Rattle.vl_tree.specs.declared.lexemes.Lexeme.{Lexeme}
 use Rattle.vl_tree.specs.declared.lexemes.Lexeme.TheVariants as lex
@@ -8,20 +8,18 @@ use Rattle.vl_tree.specs.declared.exprs.Expr.{Expr}
 use Rattle.vl_tree.specs.declared.exprs.Expr.TheVariants as expr
 use Rattle.vl_tree.specs.declared.exprs.Select.{Select}
 use Rattle.vl_tree.specs.declared.exprs.Select.TheVariants as select
-use Rattle.vl_tree.specs.Places.{At, IsName}
+use Rattle.vl_tree.specs.Places.{At}
 use Rattle.vl_expr.specs.declared.found.Found.{Found}
-use Rattle.vl_expr.specs.declared.classes.Start.{Start}
 use Rattle.vl_expr.specs.declared.classes.Start.TheVariants as start
 use Rattle.vl_expr.specs.declared.classes.Between.{Between}
 use Rattle.vl_expr.specs.declared.classes.Between.TheVariants as between
-use Rattle.vl_expr.specs.Classes.{start_of, between_of, unary_of, is_at, is_in}
+use Rattle.vl_expr.specs.Classes.{between_of, is_at}
 use Rattle.vl_expr.specs.Reading
 use Rattle.vl_expr.specs.Reading.{Reading, Reader, ◌>>=◌, node, single, added, reader_of}
 use Rattle.vl_expr.proofs.Results.{past_at, in_is_true}
 use Rattle.vl_expr.proofs.Tokens.{index_is}
-use Rattle.vl_expr.proofs.Follow.{Stops, Closes, no_bracket, no_base}
-use Rattle.vl_expr.proofs.Begins.{no_close}
-use Rattle.vl_expr.proofs.Comes.{found, Reads, Comes, Claim, below_reads}
+use Rattle.vl_expr.proofs.Follow.{Stops, Closes, no_bracket}
+use Rattle.vl_expr.proofs.Comes.{found, Reads, Claim, below_reads}
 use Rattle.vl_expr.proofs.Primaries.{bind_at, if_true, if_false, stops_at, not_at, node_comes, token_is}
 
 module _ (ls : List Lexeme) where

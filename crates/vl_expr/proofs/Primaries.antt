@@ -1,29 +1,22 @@
 -- How reading comes to an operand, from how it comes to its parts.
-use Rattle.std.proofs.Common.{◌≡◌, ◌≤◌, ◌<◌, ◌==◌, ◌&&◌, ℕ, zero, suc, ◌+◌, max, List, [], ◌∷◌, ◌++◌, Option, Some, None, Bool, true, false, cond, Result, Ok, Err, slice_get, length, nat_le, refl, sym, ap, subst, ◌∙◌, lit<, arith, rules}
-use Rattle.std.proofs.lemmas.Bool.{and_right, both_ways}
+use Rattle.std.proofs.Common.{◌≡◌, ◌≤◌, ℕ, suc, ◌+◌, List, Option, Some, None, Bool, true, false, cond, Ok, slice_get, refl, sym, ap, subst, ◌∙◌, lit<, arith}
 use Rattle.vl_tree.specs.declared.lexemes.Lexeme.{Lexeme}
 use Rattle.vl_tree.specs.declared.lexemes.Lexeme.TheVariants as lex
 use Rattle.vl_tree.specs.declared.operators.Sign.{Sign}
-use Rattle.vl_tree.specs.declared.operators.Sign.TheVariants as sign
 use Rattle.vl_tree.specs.declared.operators.UnOp.{UnOp}
 use Rattle.vl_tree.specs.declared.exprs.Expr.{Expr}
 use Rattle.vl_tree.specs.declared.exprs.Expr.TheVariants as expr
 use Rattle.vl_tree.specs.declared.exprs.Select.{Select}
-use Rattle.vl_tree.specs.declared.exprs.Select.TheVariants as select
 use Rattle.vl_tree.specs.Places.{At, IsName}
 use Rattle.vl_tree.specs.Operators.{unary}
-use Rattle.vl_expr.specs.declared.found.Found.{Found}
 use Rattle.vl_expr.specs.declared.classes.Start.{Start}
 use Rattle.vl_expr.specs.declared.classes.Start.TheVariants as start
-use Rattle.vl_expr.specs.declared.classes.Between.{Between}
-use Rattle.vl_expr.specs.declared.classes.Between.TheVariants as between
-use Rattle.vl_expr.specs.Classes.{start_of, between_of, unary_of, is_at, is_in}
+use Rattle.vl_expr.specs.Classes.{start_of, unary_of, is_at, is_in}
 use Rattle.vl_expr.specs.Reading
 use Rattle.vl_expr.specs.Reading.{Reading, Reader, ◌>>=◌, node, single, added, reader_of}
 use Rattle.vl_expr.proofs.Results.{past_at, in_is_true}
-use Rattle.vl_expr.proofs.Tokens.{index_is}
-use Rattle.vl_expr.proofs.Follow.{Stops, Closes, no_bracket, no_base}
-use Rattle.vl_expr.proofs.Begins.{named, Named, no_close}
+use Rattle.vl_expr.proofs.Follow.{Stops, no_base}
+use Rattle.vl_expr.proofs.Begins.{named}
 use Rattle.vl_expr.proofs.Comes.{found, Reads, Comes, Claim, below_reads}
 
 -- the first of two steps
@@ -106,13 +99,14 @@ module _ (ls : List Lexeme) where
   }
 
   pub call_comes : {m i j : ℕ} {es : List Expr} → IsName ls i → At ls (i + 1) lex.OpenParen →
-      ((n : ℕ) → m ≤ n → Reads (Reading.args_of ls (reader_of ls n) (i + 1)) es j m) →
-      Claim ls (suc m) 0 i j (expr.Call i i es)
-  call_comes {i = i} h p c = record {
+      ((n : ℕ) → m ≤ n → Reads (Reading.exprs_of ls (reader_of ls n) (i + 2)) es j m) → At ls j lex.CloseParen →
+      Claim ls (suc m) 0 i (j + 1) (expr.Call i i es)
+  call_comes {i = i} {j = j} h p c k = record {
     comes = λ n le.
         let r = c n (omega arith) in
         node_comes r.depth r.fits
-        (name_is (reader_of ls n) i h ∙ ap (Reading.name_by ls (reader_of ls n) i) (in_is_true (slice_get ls (i + 1)) lex.OpenParen p) ∙ bind_at _ r.is);
+        (name_is (reader_of ls n) i h ∙ ap (Reading.name_by ls (reader_of ls n) i) (in_is_true (slice_get ls (i + 1)) lex.OpenParen p) ∙ bind_at _ r.is
+        ∙ past_at ls j lex.CloseParen _ k);
   }
 
   -- an expression in parentheses

@@ -1,6 +1,6 @@
 -- What follows where reading gave something.
-use Rattle.std.proofs.Common.{◌≡◌, ℕ, List, Option, Some, None, Bool, true, false, cond, Result, Ok, Err, slice_get, refl, sym, ap, rules, ◌∙◌}
-use denote.Enum.Bare.{same_true, true_same, sameb}
+use Rattle.std.proofs.Common.{◌≡◌, ℕ, List, Option, Some, None, Bool, true, false, cond, Ok, Err, slice_get, refl, ap}
+use denote.Enum.Bare.{same_true, true_same}
 use Rattle.vl_tree.specs.contracts.lexemes.Lexeme.{the_type}
 use Rattle.vl_tree.specs.declared.lexemes.Lexeme.{Lexeme}
 use Rattle.vl_tree.specs.Places.{At}

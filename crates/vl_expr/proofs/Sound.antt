@@ -1,9 +1,8 @@
 -- What is read is in the grammar, at each depth from its own on.
-use Rattle.std.proofs.Common.{◌≡◌, ◌≤◌, ◌==◌, ◌&&◌, ℕ, zero, suc, ◌+◌, max, List, [], ◌∷◌, Option, Some, None, Bool, true, false, Result, Ok, Err, slice_get, length, nat_le, refl, sym, ap, subst, arith, rules}
+use Rattle.std.proofs.Common.{◌≡◌, ◌≤◌, ◌==◌, ◌&&◌, ℕ, zero, suc, ◌+◌, max, List, [], ◌∷◌, Option, Some, None, Bool, true, false, Ok, slice_get, length, nat_le, refl, sym, subst, arith}
 use Rattle.std.proofs.lemmas.Bool.{eqb-true, and_parts, both_ways}
 use Rattle.vl_tree.specs.declared.lexemes.Lexeme.{Lexeme}
 use Rattle.vl_tree.specs.declared.lexemes.Lexeme.TheVariants as lex
-use Rattle.vl_tree.specs.declared.operators.Sign.{Sign}
 use Rattle.vl_tree.specs.declared.operators.Sign.TheVariants as sign
 use Rattle.vl_tree.specs.declared.operators.UnOp.{UnOp}
 use Rattle.vl_tree.specs.declared.operators.BinOp.{BinOp}
@@ -12,7 +11,7 @@ use Rattle.vl_tree.specs.declared.exprs.Expr.TheVariants as expr
 use Rattle.vl_tree.specs.declared.exprs.Select.{Select}
 use Rattle.vl_tree.specs.declared.exprs.Select.TheVariants as select
 use Rattle.vl_tree.specs.Places.{At, IsName}
-use Rattle.vl_tree.specs.Expressions.{IsLevel, IsExprs, IsArgs, IsSelects, IsSelect}
+use Rattle.vl_tree.specs.Expressions.{IsLevel, IsArgs, IsSelects, IsSelect}
 use Rattle.vl_expr.specs.declared.found.Found.{Found}
 use Rattle.vl_expr.specs.declared.classes.Start.{Start}
 use Rattle.vl_expr.specs.declared.classes.Start.TheVariants as start
@@ -21,9 +20,9 @@ use Rattle.vl_expr.specs.declared.classes.Between.TheVariants as between
 use Rattle.vl_expr.specs.Classes.{start_of, between_of, unary_of, operator_of, is_at}
 use Rattle.vl_expr.specs.Reading
 use Rattle.vl_expr.specs.Reading.{Reading, Reader, ◌>>=◌, node, single, added}
-use Rattle.vl_expr.proofs.Results.{ok_one, bind_ok, Bound, past_ok, Past, test_ok, Tested, cond_ok, Chosen, was_true, was_false, is_in_true}
+use Rattle.vl_expr.proofs.Results.{ok_one, bind_ok, past_ok, test_ok, cond_ok, was_true, was_false, is_in_true}
 use Rattle.vl_expr.proofs.Stands.{Stands, SelectStands, ExprsStand, ArgsStand, SelectsStand, max_left, max_right, raised, single_stands, added_stands, node_stands, select_stands}
-use Rattle.vl_expr.proofs.Tokens.{start_decimal, start_based, start_paren, start_brace, start_signed, start_unsigned, start_name, between_colon, between_plus, between_minus, unary_at, UnaryAt, binary_at, BinaryAt, part_is, up_is, down_is}
+use Rattle.vl_expr.proofs.Tokens.{start_decimal, start_based, start_brace, start_signed, start_unsigned, start_name, between_colon, between_plus, between_minus, unary_at, binary_at, BinaryAt, part_is, up_is, down_is}
 
 -- what a reader of the parts reads stands where it was read
 pub record Sound (ls : List Lexeme) (below : Reader) : Type 0 where
@@ -229,13 +228,16 @@ module _ (ls : List Lexeme) (below : Reader) (sound : Sound ls below) where
         | was_false t r ↦ subst (SelectsStand ls at) (ok_one r) (record { at_least = λ m le. IsSelects.no_select })
       ]
 
-  name_stands : (at : ℕ) (p : Found Expr) (call : Bool) → IsName ls at → Reading.name_by ls below at call ≡ Ok p → Stands ls 0 at p
-  name_stands at p true n e =
+  name_stands : (at : ℕ) (p : Found Expr) (call : Bool) → is_at ls (at + 1) lex.OpenParen ≡ call → IsName ls at →
+      Reading.name_by ls below at call ≡ Ok p → Stands ls 0 at p
+  name_stands at p true is n e =
       let b = bind_ok _ _ p e in
-      let all = args_stand (at + 1) b.val b.first in
-      subst (Stands ls 0 at) (ok_one b.rest)
-      (node_stands ls 0 at b.val.end b.val.depth (expr.Call at at b.val.tree) (λ m le. IsLevel.call n (all.at_least m le)))
-  name_stands at p false n e =
+      let k = past_ok ls b.val.end lex.CloseParen _ p b.rest in
+      let all = exprs_stand (at + 2) b.val b.first in
+      subst (Stands ls 0 at) (ok_one k.rest)
+      (node_stands ls 0 at (b.val.end + 1) b.val.depth (expr.Call at at b.val.tree)
+      (λ m le. IsLevel.call n (is_in_true (slice_get ls (at + 1)) lex.OpenParen is) (all.at_least m le) k.here))
+  name_stands at p false is n e =
       let b = bind_ok _ _ p e in
       let all = selects_stand (at + 1) b.val b.first in
       subst (Stands ls 0 at) (ok_one b.rest)
@@ -254,7 +256,7 @@ module _ (ls : List Lexeme) (below : Reader) (sound : Sound ls below) where
   primary_stands at p start.Based is e =
       subst (Stands ls 0 at) (ok_one e)
       (node_stands ls 0 at (at + 1) 0 (expr.Based at None at) (λ m le. IsLevel.based (start_based _ is)))
-  primary_stands at p start.Name is e = name_stands at p (is_at ls (at + 1) lex.OpenParen) (start_name _ is) e
+  primary_stands at p start.Name is e = name_stands at p (is_at ls (at + 1) lex.OpenParen) refl (start_name _ is) e
   primary_stands at p (start.Sign sign.Signed) is e =
       let b = bind_ok _ _ p e in
       let q = paren_stands (at + 1) b.val b.first in

@@ -1,16 +1,17 @@
 -- Tokens in their text: where they stand, and how many there may be.
 use Rattle.std.proofs.Common.{◌≡◌, ◌≤◌, ◌<◌, ◌+◌, ℕ, List, [], ◌∷◌, length, get_or, suc, Result, Ok, Err, Global, vec_len, ap, refl, ◌∙◌, ◌^◌, arith}
-use Rattle.std.specs.Prelude.{map, IfOk, Vec}
+use Rattle.std.specs.Prelude.{IfOk, Vec}
 use Rattle.std.proofs.lemmas.List.Elements.{All-get_or}
 use Rattle.std.proofs.lemmas.Option.{slice_get-get_or}
-use Rattle.vl_pre.specs.Text.{Expanded}
+use Rattle.vl_pre.specs.Text.{Expanded, place_of}
 use Rattle.vl_pre.specs.Runs.{most}
 use Rattle.vl_tree.specs.declared.lexemes.Lexeme.{Lexeme}
 use Rattle.vl_lex.specs.declared.kinds.Token.{Token}
 use Rattle.vl_lex.specs.Tokens.{Reads, AreTokens, AreSpans}
 use Rattle.vl_lex.proofs.Readings.{spans}
-use Rattle.vl_tree.specs.Lexemes.{lexemes_of}
-use Rattle.vl_expr.specs.Refusals.{no_tree, IsNoTree}
+use Rattle.vl_expr.specs.Lexemes.{lexemes_of}
+use Rattle.vl_expr.specs.Refusals.{IsNoTree}
+use Rattle.xt_base.specs.declared.refusals.Place.{Place}
 
 pub start_within : (text : List ℕ) (ts : List Token) (i : ℕ) (d : Token) → AreTokens text ts → i < length ts → (get_or ts i d).start < length text
 start_within text ts i d are h =
@@ -19,8 +20,16 @@ start_within text ts i d are h =
     let high = each.1 in
     omega arith
 
-pub refused_at : (text : Expanded) (ts : List Token) (i : ℕ) (d : Token) → i < length ts → IsNoTree text ts (no_tree text (get_or ts i d))
-refused_at text ts i d h = record { at = i; token = get_or ts i d; there = slice_get-get_or ts i d h; is = refl }
+pub refused_at : (text : Expanded) (ts list : List Token) (i : ℕ) (d : Token) (place : Place) → list ≡ ts → i < length ts →
+    place ≡ place_of text (get_or list i d).start → place.file < length text.names →
+    IsNoTree text ts (record { rule = record { 0 = 20 }; place = place })
+refused_at text ts list i d place same h is named = record {
+  at = i;
+  token = get_or ts i d;
+  there = slice_get-get_or ts i d h;
+  is = ap (λ p. record { rule = record { 0 = 20 }; place = p }) (is ∙ ap (λ l. place_of text (get_or l i d).start) same);
+  named = named;
+}
 
 count_to : (text : List ℕ) (from to : ℕ) (ts : List Token) → Reads text from ts to → length ts + from ≤ to
 count_to text from to [] are = let o = are.order in omega arith

@@ -1,12 +1,10 @@
 -- What stands somewhere at each depth from its own on.
-use Rattle.std.proofs.Common.{◌≡◌, ◌≤◌, ℕ, zero, suc, ◌+◌, max, List, [], ◌∷◌, ◌++◌, Some, None, slice_get, arith}
+use Rattle.std.proofs.Common.{◌≤◌, ℕ, zero, suc, ◌+◌, max, List, [], ◌∷◌, ◌++◌, arith}
 use Rattle.vl_tree.specs.declared.lexemes.Lexeme.{Lexeme}
 use Rattle.vl_tree.specs.declared.lexemes.Lexeme.TheVariants as lex
 use Rattle.vl_tree.specs.declared.exprs.Expr.{Expr}
-use Rattle.vl_tree.specs.declared.exprs.Expr.TheVariants as expr
 use Rattle.vl_tree.specs.declared.exprs.Select.{Select}
-use Rattle.vl_tree.specs.declared.exprs.Select.TheVariants as select
-use Rattle.vl_tree.specs.Places.{At, IsName}
+use Rattle.vl_tree.specs.Places.{At}
 use Rattle.vl_tree.specs.Expressions.{IsLevel, IsExprs, IsArgs, IsSelects, IsSelect}
 use Rattle.vl_expr.specs.declared.found.Found.{Found}
 use Rattle.vl_expr.specs.Reading.{node, added, single}

@@ -1,9 +1,8 @@
 -- What a token is where the reader of expressions takes it for something.
-use Rattle.std.proofs.Common.{◌≡◌, ◌⊎◌, ◌==◌, ℕ, suc, Option, Some, None, Bool, true, false, cond, refl, sym, ap, inl, inr, rules}
+use Rattle.std.proofs.Common.{◌≡◌, ◌==◌, ℕ, suc, Option, Some, None, Bool, true, false, cond, refl, ap}
 use Rattle.std.proofs.lemmas.Bool.{eqb-true}
 use Rattle.vl_tree.specs.declared.lexemes.Lexeme.{Lexeme}
 use Rattle.vl_tree.specs.declared.lexemes.Lexeme.TheVariants as lex
-use Rattle.vl_tree.specs.declared.operators.Sign.{Sign}
 use Rattle.vl_tree.specs.declared.operators.Sign.TheVariants as sign
 use Rattle.vl_tree.specs.declared.operators.UnOp.{UnOp}
 use Rattle.vl_tree.specs.declared.operators.BinOp.{BinOp}

@@ -9,7 +9,6 @@ use Rattle.vl_lex.specs.declared.kinds.Token.{Token}
 use Rattle.vl_tree.specs.declared.lexemes.Lexeme.{Lexeme}
 use Rattle.vl_tree.specs.declared.exprs.Expr.{Expr}
 use Rattle.vl_tree.specs.Expressions.{IsWholeExpr}
-use Rattle.vl_expr.specs.declared.found.Found.{Found}
 use Rattle.vl_expr.specs.Reading.{whole_of}
 use Rattle.vl_expr.specs.Refusals.{Tells, IsNoTree}
 use Rattle.vl_expr.proofs.Results.{ok_one}

@@ -1,5 +1,5 @@
 -- What single tokens are to the reader of expressions. It is this project's own.
-use Rattle.std.specs.Prelude.{◌≡◌, ◌==◌, ℕ, suc, List, Option, Some, None, Bool, true, false, slice_get, if◌then◌else◌}
+use Rattle.std.specs.Prelude.{◌==◌, ℕ, suc, List, Option, Some, None, Bool, false, slice_get, if◌then◌else◌}
 use denote.Enum.Bare.{sameb}
 use Rattle.vl_tree.specs.contracts.lexemes.Lexeme.{the_type}
 use Rattle.vl_tree.specs.declared.lexemes.Lexeme.{Lexeme}

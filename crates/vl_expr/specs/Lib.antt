@@ -1,3 +1,4 @@
+pub mod Lexemes
 pub mod Classes
 pub mod Reading
 pub mod Refusals

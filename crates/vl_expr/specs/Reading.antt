@@ -125,7 +125,7 @@ closed ls x p = past ls p.end x (Ok (record { tree = p.tree; end = p.end + 1; de
 abbrev pub no_args : ℕ → Found (List Expr)
 no_args at = record { tree = []; end = at + 2; depth = 0 }
 
--- "(" [ expr { "," expr } ] ")"
+-- the arguments of a task's enable: "(" [ expr { "," expr } ] ")"
 abbrev pub args_of : List Lexeme → Reader → ℕ → Reading (Found (List Expr))
 args_of ls below at =
     past ls at lex.OpenParen
@@ -159,7 +159,9 @@ braces_of ls below at =
 
 -- a name with selects, or a call
 abbrev pub name_by : List Lexeme → Reader → ℕ → Bool → Reading (Found Expr)
-name_by ls below at true = args_of ls below (at + 1) >>= λ all. Ok (node (expr.Call at at all.tree) all.end all.depth)
+name_by ls below at true =
+    exprs_of ls below (at + 2) >>= λ all.
+    past ls all.end lex.CloseParen (Ok (node (expr.Call at at all.tree) (all.end + 1) all.depth))
 name_by ls below at false = selects_of ls below (at + 1) >>= λ all. Ok (node (expr.Name at at all.tree) all.end all.depth)
 
 -- a decimal number, or one with a base behind its size

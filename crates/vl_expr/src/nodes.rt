@@ -195,12 +195,13 @@ pub fn name_node(at: u32, selects: Found<Items<Select>>) -> Found<Expr>
     )
 }
 
-/// A call.
+/// A call, behind whose arguments `)` stands.
 pub fn call_node(at: u32, args: Found<Items<Expr>>) -> Found<Expr>
-    requires { args.depth < 2 ^ 32 - 1 }
-    ensures { result ≡ node (expr.Call at at args.tree) args.end args.depth }
+    requires depth { args.depth < 2 ^ 32 - 1 }
+    requires room { args.end < 2 ^ 32 - 1 }
+    ensures { result ≡ node (expr.Call at at args.tree) (args.end + 1) args.depth }
 {
-    let end = args.end;
+    let end = args.end + 1;
     let depth = args.depth;
     let args = args.tree;
     node(Expr::Call { at, name: at, args }, end, depth)

@@ -1,11 +1,11 @@
 //! The expressions of a text's tokens.
-ghost use Rattle.std.specs.Prelude.{◌≡◌, ◌<◌, ◌^◌, ◌-◌, ℕ, List, length, IfOk, MatchResult};
+ghost use Rattle.std.specs.Prelude.{◌≡◌, ◌<◌, ◌≤◌, ◌^◌, ◌-◌, ℕ, List, length, IfOk, MatchResult};
 ghost use Rattle.xt_base.specs.declared.refusals.Refusal.{Refusal};
 ghost use Rattle.vl_lex.specs.Tokens.{AreTokens};
 ghost use Rattle.vl_tree.specs.declared.exprs.Expr.{Expr};
 ghost use Rattle.vl_tree.specs.declared.lexemes.Lexeme.{Lexeme};
 ghost use Rattle.vl_tree.specs.Expressions.{IsExpr, IsWholeExpr};
-ghost use Rattle.vl_tree.specs.Lexemes.{lexemes_of};
+ghost use Rattle.vl_expr.specs.Lexemes.{lexemes_of};
 ghost use Rattle.vl_expr.specs.Reading.{Gives, whole_of};
 ghost use Rattle.vl_expr.specs.Refusals.{IsNoTree, Tells};
 
@@ -104,8 +104,10 @@ pub fn parse_expr(
 }
 
 /// At a place of a list of tokens begins at most one expression that ends before one of the tokens
-/// `) ] } , ; : { +: -:`.
+/// `) ] } , ; : { +: -:`, whatever its depth; and what is one within a depth is one within each larger depth.
 pub fn one_expr()
-    ensures { (ls : List Lexeme) (n at i j : ℕ) (e f : Expr) →
-        IsWholeExpr ls n at i e → IsWholeExpr ls n at j f → (e ≡ f) × (i ≡ j) }
+    ensures one { (ls : List Lexeme) (n m at i j : ℕ) (e f : Expr) →
+        IsWholeExpr ls n at i e → IsWholeExpr ls m at j f → (e ≡ f) × (i ≡ j) }
+    ensures deeper { (ls : List Lexeme) (n m at j : ℕ) (e : Expr) → n ≤ m →
+        IsWholeExpr ls n at j e → IsWholeExpr ls m at j e }
 {}

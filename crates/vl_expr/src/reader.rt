@@ -221,7 +221,7 @@ fn primary_at(
     }
 }
 
-/// A call, or a name with its selects.
+/// A call, which has an argument, or a name with its selects.
 #[cycle(expr)]
 fn name_at(
     alloc: Global,
@@ -237,7 +237,8 @@ fn name_at(
     ensures fits { IfOk result (λ p. p.depth ≤ depth + 1) }
 {
     if is_at(lexemes, at + 1, Lexeme::OpenParen) {
-        let args = args_at(alloc, lexemes, depth, at + 1)?;
+        let args = exprs_at(alloc, lexemes, depth, at + 2)?;
+        expect(lexemes, args.end, Lexeme::CloseParen)?;
         Ok(call_node(at, args))
     } else {
         let selects = selects_at(alloc, lexemes, depth, at + 1)?;
@@ -262,8 +263,8 @@ fn paren_at(
     closed(lexemes, Lexeme::CloseParen, inner)
 }
 
-/// Expressions in parentheses with commas between them, or none, none of them deeper than `depth`.
-#[cycle(expr)]
+/// The arguments of a task's enable, in parentheses: expressions with commas between them, or none, none of them deeper
+/// than `depth`.
 pub fn args_at(
     alloc: Global,
     lexemes: &[Lexeme],

@@ -8,7 +8,7 @@ use vl_tree::{Expr, Select};
 use xt_base::Place;
 
 /// Expressions with what ends them, and their trees: an operator before its operands, a name with its selects in angles.
-const TREES: [(&str, &str); 73] = [
+const TREES: [(&str, &str); 72] = [
     ("a;", "a"),
     ("12 ;", "12"),
     ("'hf)", "'hf"),
@@ -76,9 +76,8 @@ const TREES: [(&str, &str); 73] = [
     ("x[i -: 4];", "x<i-4>"),
     ("x[a + 1][7:0];", "x<Add(a,1)><7:0>"),
     ("x[y[1]];", "x<y<1>>"),
-    ("f();", "f()"),
     ("f(a);", "f(a)"),
-    ("f(a, b + c, g());", "f(a,Add(b,c),g())"),
+    ("f(a, b + c, g(d));", "f(a,Add(b,c),g(d))"),
     ("int(import, void);", "int(import,void)"),
     ("$signed(a + b);", "Signed(Add(a,b))"),
     ("$unsigned(a) >>> 1;", "Ashr(Unsigned(a),1)"),
@@ -98,7 +97,7 @@ const TREES: [(&str, &str); 73] = [
 ];
 
 /// Tokens that begin with no such expression, and the line of the token at which reading stops.
-const REFUSED: [(&str, u32); 38] = [
+const REFUSED: [(&str, u32); 40] = [
     ("\n;", 2),
     (")", 1),
     ("a", 1),
@@ -122,6 +121,8 @@ const REFUSED: [(&str, u32); 38] = [
     ("a[i +: 2]\n[3];", 2),
     ("a[1][2][3]\n;", 1),
     ("a[1][2]\n[3:0];", 2),
+    ("f(\n);", 2),
+    ("f(a, g(\n));", 2),
     ("f(a,\n);", 2),
     ("f(a b);", 1),
     ("f(a)\n(b);", 2),

@@ -1,7 +1,7 @@
 //! What each token of a text is for the grammar.
 ghost use Rattle.std.specs.Prelude.{◌≡◌, ◌≤◌, ◌<◌, ◌^◌, find, map, option_map, bytes_eq, length, vec_len, IfOk};
 ghost use Rattle.vl_lex.specs.Tokens.{AreSpans, AreTokens};
-ghost use Rattle.vl_tree.specs.Lexemes.{listed, import_words, keywords, operators, imports, signs, lexeme_of, lexemes_of, spelling};
+ghost use Rattle.vl_expr.specs.Lexemes.{listed, import_words, keywords, operators, imports, signs, lexeme_of, lexemes_of, spelling};
 
 use std::alloc::Global;
 use vl_lex::{Kind, Token, Tokens};
@@ -127,35 +127,35 @@ fn entry(table: &[(&str, Lexeme)], bytes: &[u8]) -> Option<Lexeme>
     first_entry(table, bytes)
 }
 
-#[tactic(auto, unfolding(vl_tree::specs::Lexemes::import_words))]
+#[tactic(auto, unfolding(crate::specs::Lexemes::import_words))]
 fn import_word(bytes: &[u8]) -> Option<Lexeme>
     ensures { result ≡ listed import_words bytes.now }
 {
     entry(&IMPORT_WORDS, bytes)
 }
 
-#[tactic(auto, unfolding(vl_tree::specs::Lexemes::keywords))]
+#[tactic(auto, unfolding(crate::specs::Lexemes::keywords))]
 fn keyword(bytes: &[u8]) -> Option<Lexeme>
     ensures { result ≡ listed keywords bytes.now }
 {
     entry(&KEYWORDS, bytes)
 }
 
-#[tactic(auto, unfolding(vl_tree::specs::Lexemes::operators))]
+#[tactic(auto, unfolding(crate::specs::Lexemes::operators))]
 fn operator(bytes: &[u8]) -> Option<Lexeme>
     ensures { result ≡ listed operators bytes.now }
 {
     entry(&OPERATORS, bytes)
 }
 
-#[tactic(auto, unfolding(vl_tree::specs::Lexemes::imports))]
+#[tactic(auto, unfolding(crate::specs::Lexemes::imports))]
 fn import_string(bytes: &[u8]) -> Option<Lexeme>
     ensures { result ≡ listed imports bytes.now }
 {
     entry(&IMPORTS, bytes)
 }
 
-#[tactic(auto, unfolding(vl_tree::specs::Lexemes::signs))]
+#[tactic(auto, unfolding(crate::specs::Lexemes::signs))]
 fn sign(bytes: &[u8]) -> Option<Lexeme>
     ensures { result ≡ listed signs bytes.now }
 {

@@ -1,8 +1,8 @@
 -- Expressions, selects and left sides (IEEE 1364-2005, A.8).
 --
 -- In each relation of the grammar ls are the tokens, and n is a depth that the part does not pass. The part stands at
--- the places from i up to but not including the last place, and is the tree behind it. A node is one deeper than what
--- stands in it.
+-- the places from i up to but not including the last place, and is the tree behind it. Statements, expressions, left
+-- sides, selects and pairs of parentheses of an expression are one deeper than what stands in them; nothing else counts.
 use Rattle.std.specs.Prelude.{◌≡◌, ℕ, suc, ◌+◌, List, [], ◌∷◌, Option, Some, None, Bool, true, false, slice_get}
 use Rattle.vl_tree.specs.declared.lexemes.Lexeme.{Lexeme}
 use Rattle.vl_tree.specs.declared.lexemes.Lexeme.TheVariants as lex
@@ -43,9 +43,10 @@ mutual
     -- | ID { select }
     name : {n i j : ℕ} {ss : List Select} →
         IsName ls i → IsSelects ls n (i + 1) j ss → IsLevel ls (suc n) 0 i j (expr.Name i i ss)
-    -- | ID "(" [ expr { "," expr } ] ")"
+    -- | ID "(" expr { "," expr } ")"
     call : {n i j : ℕ} {es : List Expr} →
-        IsName ls i → IsArgs ls n (i + 1) j es → IsLevel ls (suc n) 0 i j (expr.Call i i es)
+        IsName ls i → At ls (i + 1) lex.OpenParen → IsExprs ls n (i + 2) j es → At ls j lex.CloseParen →
+        IsLevel ls (suc n) 0 i (j + 1) (expr.Call i i es)
     -- | ( "$signed" | "$unsigned" ) "(" expr ")"
     to_signed : {n i j : ℕ} {e : Expr} →
         At ls i lex.ToSigned → At ls (i + 1) lex.OpenParen → IsLevel ls n 11 (i + 2) j e → At ls j lex.CloseParen →
@@ -72,12 +73,6 @@ mutual
     more_exprs : {n i j k : ℕ} {e : Expr} {es : List Expr} →
         IsLevel ls n 11 i j e → At ls j lex.Comma → IsExprs ls n (j + 1) k es → IsExprs ls n i k (e ∷ es)
 
-  -- "(" [ expr { "," expr } ] ")"
-  pub data IsArgs (ls : List Lexeme) : ℕ → ℕ → ℕ → List Expr → Type 0 where
-    no_args : {n i : ℕ} → At ls i lex.OpenParen → At ls (i + 1) lex.CloseParen → IsArgs ls n i (i + 2) []
-    some_args : {n i j : ℕ} {es : List Expr} →
-        At ls i lex.OpenParen → IsExprs ls n (i + 1) j es → At ls j lex.CloseParen → IsArgs ls n i (j + 1) es
-
   -- { select }: at most two, and the first of two is a plain index
   pub data IsSelects (ls : List Lexeme) : ℕ → ℕ → ℕ → List Select → Type 0 where
     no_select : {n i : ℕ} → IsSelects ls n i i []
@@ -103,6 +98,12 @@ mutual
 -- expr
 abbrev pub IsExpr : List Lexeme → ℕ → ℕ → ℕ → Expr → Type 0
 IsExpr ls n i j e = IsLevel ls n 11 i j e
+
+-- the arguments of a task's enable: "(" [ expr { "," expr } ] ")"
+pub data IsArgs (ls : List Lexeme) : ℕ → ℕ → ℕ → List Expr → Type 0 where
+  no_args : {n i : ℕ} → At ls i lex.OpenParen → At ls (i + 1) lex.CloseParen → IsArgs ls n i (i + 2) []
+  some_args : {n i j : ℕ} {es : List Expr} →
+      At ls i lex.OpenParen → IsExprs ls n (i + 1) j es → At ls j lex.CloseParen → IsArgs ls n i (j + 1) es
 
 -- the tokens before which an expression ends
 abbrev pub ends_expr : Option Lexeme → Bool

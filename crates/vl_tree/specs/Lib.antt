@@ -1,4 +1,3 @@
-pub mod Lexemes
 pub mod Places
 pub mod Lists
 pub mod Operators

@@ -1,4 +1,4 @@
-use Rattle.vl_tree.specs.Lexemes.{lexemes_of}
+use Rattle.vl_expr.specs.Lexemes.{lexemes_of}
 use Rattle.vl_expr.proofs.Told.{told_found, told_only, told_none}
 use Rattle.vl_expr.proofs.parse.parse_expr.Goals as goal
 

@@ -13,4 +13,5 @@ pub returns : goal.returns
 returns c =
     let len : length c.list-list.result.now ≡ length c.args.tokens.now = ap length c.list-list.ensures in
     let here : c.min.result < length c.args.tokens.now = omega arith in
-    rw (c.place.ensures.place, c.list-list.ensures) (refused_at c.args.text.now c.args.tokens.now c.min.result _ here)
+    refused_at c.args.text.now c.args.tokens.now c.list-list.result.now c.min.result _ c.place.result c.list-list.ensures here
+    c.place.ensures.place c.place.ensures.named

@@ -1,6 +1,6 @@
 -- Each call goes one depth down, or keeps the depth and goes down this order of the functions. The loops keep what is
 -- left to read.
-use Rattle.std.proofs.Common.{◌≡◌, ◌≤◌, ◌*◌, ◌+◌, ◌-◌, ℕ, length}
+use Rattle.std.proofs.Common.{◌≡◌, ◌≤◌, ◌*◌, ◌+◌, ◌-◌, length}
 use Rattle.vl_expr.specs.Reading.{reader_of, tail_of, exprs_from}
 use Rattle.vl_expr.proofs.reader.+expr.Given as goal
 
@@ -24,9 +24,6 @@ decreases-exprs_behind l = 32 * l.depth + 1
 
 abbrev pub decreases-exprs_at : goal.decreases-exprs_at
 decreases-exprs_at l = 32 * l.depth + 2
-
-abbrev pub decreases-args_at : goal.decreases-args_at
-decreases-args_at l = 32 * l.depth + 3
 
 abbrev pub decreases-concat_at : goal.decreases-concat_at
 decreases-concat_at l = 32 * l.depth + 2

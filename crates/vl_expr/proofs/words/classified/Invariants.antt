@@ -1,5 +1,5 @@
 use Rattle.std.proofs.Common.{◌≡◌, take}
-use Rattle.vl_tree.specs.Lexemes.{lexemes_of}
+use Rattle.vl_expr.specs.Lexemes.{lexemes_of}
 use Rattle.vl_expr.proofs.words.classified.Given as goal
 
 abbrev pub invariant-loop-token : goal.invariant-loop-token

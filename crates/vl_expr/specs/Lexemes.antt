@@ -1,5 +1,5 @@
 -- What each token is for the grammar, by its kind and its bytes.
-use Rattle.std.specs.Prelude.{ℕ, List, [], ◌∷◌, Option, Some, None, Bool, bytes_eq, codes, map, unwrap_or, slice_range, if◌then◌else◌}
+use Rattle.std.specs.Prelude.{ℕ, List, [], ◌∷◌, Option, Some, None, bytes_eq, codes, map, unwrap_or, slice_range, if◌then◌else◌}
 use Rattle.vl_lex.specs.declared.kinds.Kind.{Kind}
 use Rattle.vl_lex.specs.declared.kinds.Kind.TheVariants as kind
 use Rattle.vl_lex.specs.declared.kinds.Token.{Token}
