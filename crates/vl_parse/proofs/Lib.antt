@@ -1,0 +1,15 @@
+pub mod Turns
+pub mod Parts
+pub mod Names
+pub mod Expressions
+pub mod Follow
+pub mod Tokens
+pub mod SoundDeclarations
+pub mod SoundStatements
+pub mod SoundRoutines
+pub mod SoundModules
+pub mod ReadDeclarations
+pub mod ReadStatements
+pub mod ReadRoutines
+pub mod ReadModules
+pub mod Laws

@@ -1,0 +1,8 @@
+use Rattle.std.proofs.Common.{◌≡◌, ◌-◌, length}
+use Rattle.vl_parse.specs.Parts.{separated_from}
+use Rattle.vl_parse.proofs.lists.further.Given as goal
+
+abbrev pub invariant-turns : goal.invariant-turns
+invariant-turns g l =
+    separated_from l.input.lexemes l.separator (g.T.Parse.reading l.input l.depth) (length l.input.lexemes) l.fn.first
+    ≡ separated_from l.input.lexemes l.separator (g.T.Parse.reading l.input l.depth) (length l.input.lexemes - l.turn) l.all

@@ -1,0 +1,312 @@
+//! Modules and their headers.
+ghost use Rattle.std.specs.Prelude.{◌≡◌, ◌<◌, ◌^◌, ◌-◌, ◌+◌, Some, true, false, IsTrue, MatchOption};
+ghost use Rattle.vl_tree.specs.Lists.{first_led};
+ghost use Rattle.vl_tree.specs.Modules.{is_output_reg, values_fit};
+ghost use Rattle.vl_expr.specs.Reading.{Gives};
+ghost use Rattle.vl_parse.specs.Parts.{maybe_of};
+ghost use Rattle.vl_parse.specs.Routines.{opens_dir};
+ghost use Rattle.vl_parse.specs.Modules.{default_of, lead_of, opens_lead, pdecl_of, net_of, reg_of, dir_by, dir_of, port_of, params_of, opens_params, misfit, ports_of, opens_ports, items_of, module_of, opens_module};
+
+use crate::classes::direction_at;
+use crate::declarations::{Size, value};
+use crate::input::Input;
+use crate::lists::{Begin, Parse, listed, many, optional, separated};
+use crate::part::{Part, absent, present};
+use crate::routines::opens_dir;
+use sqlite_items::Items;
+use vl_expr::ParseError;
+use vl_tree::{Dir, Direction, Expr, Item, Lexeme, Module, Pdecl, Port, Ptype};
+
+/// The value of what is declared, if there is one.
+pub fn default(input: &Input<'_>, depth: u32, at: u32) -> Result<Part<Option<Expr>>, ParseError>
+    ensures { Gives result (default_of input.now.lexemes depth at) }
+{
+    if input.is_at(at, Lexeme::Equals) {
+        let value = value(input, depth, at)?;
+        Ok(present(value))
+    } else {
+        Ok(absent(at))
+    }
+}
+
+/// The leading words of a parameter, if there are any.
+fn lead(input: &Input<'_>, depth: u32, at: u32) -> Result<Part<Option<Ptype>>, ParseError>
+    ensures { Gives result
+        (maybe_of input.now.lexemes opens_lead (lead_of input.now.lexemes depth) at) }
+{
+    if input.is_at(at, Lexeme::Parameter) {
+        let ptype = Ptype::parse(input, depth, at + 1)?;
+        Ok(present(ptype))
+    } else {
+        Ok(absent(at))
+    }
+}
+
+impl Parse for Pdecl {
+    ghost reading = { λ i n at. pdecl_of i.lexemes n at };
+
+    fn parse(input: &Input<'_>, depth: u32, at: u32) -> Result<Part<Pdecl>, ParseError> {
+        let ptype = lead(input, depth, at)?;
+        input.name(ptype.end)?;
+        let value = value(input, depth, ptype.end + 1)?;
+        Ok(Part {
+            tree: Pdecl {
+                at,
+                ptype: ptype.tree,
+                name: ptype.end,
+                value: value.tree,
+            },
+            end: value.end,
+        })
+    }
+}
+
+/// The leading words of a net's port, behind `input` or `output`.
+fn net(
+    input: &Input<'_>,
+    depth: u32,
+    at: u32,
+    direction: Direction,
+) -> Result<Part<Dir>, ParseError>
+    requires { at < 2 ^ 32 - 2 }
+    ensures { Gives result (net_of input.now.lexemes depth at direction) }
+{
+    let wire = input.is_at(at + 1, Lexeme::Wire);
+    let size = Size::parse(input, depth, input.behind(Lexeme::Wire, at + 1))?;
+    let Size { signed, range } = size.tree;
+    Ok(Part {
+        tree: Dir::Net {
+            at,
+            direction,
+            wire,
+            signed,
+            range,
+        },
+        end: size.end,
+    })
+}
+
+/// The leading words of a variable's port, behind `output reg`.
+fn reg(input: &Input<'_>, depth: u32, at: u32) -> Result<Part<Dir>, ParseError>
+    requires { at + 1 < 2 ^ 32 - 2 }
+    ensures { Gives result (reg_of input.now.lexemes depth at) }
+{
+    let size = Size::parse(input, depth, at + 2)?;
+    let Size { signed, range } = size.tree;
+    Ok(Part {
+        tree: Dir::Reg { at, signed, range },
+        end: size.end,
+    })
+}
+
+/// The leading words of a port, whose first is this one.
+fn dir(
+    input: &Input<'_>,
+    depth: u32,
+    at: u32,
+    direction: Direction,
+) -> Result<Part<Dir>, ParseError>
+    requires { at < 2 ^ 32 - 2 }
+    ensures { Gives result (dir_by input.now.lexemes depth at (Some direction)) }
+{
+    if input.is_at(at, Lexeme::Output) && input.is_at(at + 1, Lexeme::Reg) {
+        reg(input, depth, at)
+    } else {
+        net(input, depth, at, direction)
+    }
+}
+
+impl Parse for Dir {
+    ghost reading = { λ i n at. dir_of i.lexemes n at };
+
+    fn parse(input: &Input<'_>, depth: u32, at: u32) -> Result<Part<Dir>, ParseError> {
+        match direction_at(input, at) {
+            Some(direction) => dir(input, depth, at, direction),
+            None => Err(ParseError::NoTree { at }),
+        }
+    }
+}
+
+impl Begin for Dir {
+    ghost opens = { opens_dir };
+
+    fn begins(first: Option<Lexeme>) -> bool {
+        opens_dir(first)
+    }
+}
+
+impl Parse for Port {
+    ghost reading = { λ i n at. port_of i.lexemes n at };
+
+    fn parse(input: &Input<'_>, depth: u32, at: u32) -> Result<Part<Port>, ParseError> {
+        let dir = optional(input, depth, at)?;
+        input.name(dir.end)?;
+        let value = default(input, depth, dir.end + 1)?;
+        Ok(Part {
+            tree: Port {
+                at,
+                dir: dir.tree,
+                name: dir.end,
+                value: value.tree,
+            },
+            end: value.end,
+        })
+    }
+}
+
+/// Whether the first of a list of parameters has its leading words.
+fn params_led(params: &[Pdecl]) -> bool
+    ensures { result ≡ first_led (λ p. p.ptype) params.now }
+{
+    match params.first() {
+        Some(param) => param.ptype.is_some(),
+        None => true,
+    }
+}
+
+/// The parameters of a module.
+fn params(input: &Input<'_>, depth: u32, at: u32) -> Result<Part<Items<Pdecl>>, ParseError>
+    ensures { Gives result (params_of input.now.lexemes depth at) }
+{
+    input.expect(at, Lexeme::Hash)?;
+    input.expect(at + 1, Lexeme::OpenParen)?;
+    let params = separated(input, Lexeme::Comma, depth, at + 2)?;
+    input.expect(params.end, Lexeme::CloseParen)?;
+    if !params_led(params.tree.as_slice()) {
+        return Err(ParseError::NoTree { at: at + 2 });
+    }
+    Ok(Part {
+        tree: params.tree,
+        end: params.end + 1,
+    })
+}
+
+/// Whether the first of a list of ports has its leading words.
+fn ports_led(ports: &[Port]) -> bool
+    ensures { result ≡ first_led (λ p. p.dir) ports.now }
+{
+    match ports.first() {
+        Some(port) => port.dir.is_some(),
+        None => true,
+    }
+}
+
+/// Whether a port's words are `output reg`, its own or else those before it.
+fn is_output_reg(before: bool, dir: &Option<Dir>) -> bool
+    ensures { result ≡ is_output_reg before dir.now }
+{
+    match dir {
+        Some(Dir::Reg { .. }) => true,
+        Some(Dir::Net { .. }) => false,
+        None => before,
+    }
+}
+
+/// The name of the first port that has a value and may not have one.
+fn misfit(ports: &[Port]) -> Option<u32>
+    ensures { MatchOption result (values_fit false ports.now ≡ true)
+        (λ name. (values_fit false ports.now ≡ false) × (name ≡ misfit false ports.now)) }
+{
+    let mut reg = false;
+    for port in ports {
+        reg = is_output_reg(reg, &port.dir);
+        if port.value.is_some() && !reg {
+            return Some(port.name);
+        }
+    }
+    None
+}
+
+/// The ports of a module.
+fn ports(input: &Input<'_>, depth: u32, at: u32) -> Result<Part<Items<Port>>, ParseError>
+    ensures { Gives result (ports_of input.now.lexemes depth at) }
+{
+    input.expect(at, Lexeme::OpenParen)?;
+    let ports = listed(input, depth, at + 1)?;
+    input.expect(ports.end, Lexeme::CloseParen)?;
+    if !ports_led(ports.tree.as_slice()) {
+        return Err(ParseError::NoTree { at: at + 1 });
+    }
+    if let Some(name) = misfit(ports.tree.as_slice()) {
+        return Err(ParseError::NoTree { at: name });
+    }
+    Ok(Part {
+        tree: ports.tree,
+        end: ports.end + 1,
+    })
+}
+
+fn optional_params(
+    input: &Input<'_>,
+    depth: u32,
+    at: u32,
+) -> Result<Part<Option<Items<Pdecl>>>, ParseError>
+    ensures { Gives result
+        (maybe_of input.now.lexemes opens_params (params_of input.now.lexemes depth) at) }
+{
+    if input.is_at(at, Lexeme::Hash) {
+        let params = params(input, depth, at)?;
+        Ok(present(params))
+    } else {
+        Ok(absent(at))
+    }
+}
+
+fn optional_ports(
+    input: &Input<'_>,
+    depth: u32,
+    at: u32,
+) -> Result<Part<Option<Items<Port>>>, ParseError>
+    ensures { Gives result
+        (maybe_of input.now.lexemes opens_ports (ports_of input.now.lexemes depth) at) }
+{
+    if input.is_at(at, Lexeme::OpenParen) {
+        let ports = ports(input, depth, at)?;
+        Ok(present(ports))
+    } else {
+        Ok(absent(at))
+    }
+}
+
+/// The items of a module up to `endmodule`, and this word.
+fn items(input: &Input<'_>, depth: u32, at: u32) -> Result<Part<Items<Item>>, ParseError>
+    ensures { Gives result (items_of input.now.lexemes input.now.names depth at) }
+{
+    let items = many(input, depth, at)?;
+    input.expect(items.end, Lexeme::Endmodule)?;
+    Ok(Part {
+        tree: items.tree,
+        end: items.end + 1,
+    })
+}
+
+impl Parse for Module {
+    ghost reading = { λ i n at. module_of i.lexemes i.names n at };
+
+    fn parse(input: &Input<'_>, depth: u32, at: u32) -> Result<Part<Module>, ParseError> {
+        input.expect(at, Lexeme::Module)?;
+        input.name(at + 1)?;
+        let params = optional_params(input, depth, at + 2)?;
+        let ports = optional_ports(input, depth, params.end)?;
+        input.expect(ports.end, Lexeme::Semicolon)?;
+        let items = items(input, depth, ports.end + 1)?;
+        Ok(Part {
+            tree: Module {
+                at,
+                name: at + 1,
+                params: params.tree,
+                ports: ports.tree,
+                items: items.tree,
+            },
+            end: items.end,
+        })
+    }
+}
+
+impl Begin for Module {
+    ghost opens = { opens_module };
+
+    fn begins(first: Option<Lexeme>) -> bool {
+        first.is_some()
+    }
+}

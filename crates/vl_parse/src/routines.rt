@@ -1,0 +1,462 @@
+//! Tasks, functions and imports.
+ghost use Rattle.std.specs.Prelude.{◌≡◌, ◌<◌, ◌^◌, ◌-◌, ◌+◌, length, slice_get, MatchOption, OnSome, None, Some, OnOk};
+ghost use Rattle.std.specs.List.{list_all, list_any};
+ghost use Rattle.vl_tree.specs.Lists.{first_led};
+ghost use Rattle.vl_tree.specs.Routines.{is_input, is_input_formal, is_formals, is_input_arg, is_function_args};
+ghost use Rattle.vl_expr.specs.Reading.{Gives};
+ghost use Rattle.vl_parse.specs.Routines.{direction_of, opens_dir, fdir_by, fdir_of, formal_of, formals_of, arg_of, opens_arg, listed_args, declared_args, args_of, task_of, inputs_of, function_of, itype_of, rtype_of, bits_of, number_of, iarg_of, iargs_of, import_head, import_of};
+
+use crate::classes::{direction, direction_at, int_word_at, sign_at};
+use crate::declarations::{Size, names};
+use crate::input::Input;
+use crate::lists::{Begin, Parse, listed, many, optional};
+use crate::part::Part;
+use crate::statements::stmt;
+use sqlite_items::Items;
+use vl_expr::ParseError;
+use vl_tree::{
+    Arg, Args, Direction, Fdir, Formal, Function, Iarg, Import, Itype, Lexeme, Local, Ptype, Rtype,
+    Task,
+};
+
+/// The leading words of a formal, behind `input` or `output`.
+fn fdir(
+    input: &Input<'_>,
+    depth: u32,
+    at: u32,
+    direction: Direction,
+) -> Result<Part<Fdir>, ParseError>
+    requires { at < 2 ^ 32 - 2 }
+    ensures { Gives result (fdir_by input.now.lexemes depth at (Some direction)) }
+{
+    if input.is_at(at + 1, Lexeme::Integer) {
+        return Ok(Part {
+            tree: Fdir::Integer { at, direction },
+            end: at + 2,
+        });
+    }
+    let reg = input.is_at(at + 1, Lexeme::Reg);
+    let size = Size::parse(input, depth, input.behind(Lexeme::Reg, at + 1))?;
+    let Size { signed, range } = size.tree;
+    Ok(Part {
+        tree: Fdir::Vector {
+            at,
+            direction,
+            reg,
+            signed,
+            range,
+        },
+        end: size.end,
+    })
+}
+
+impl Parse for Fdir {
+    ghost reading = { λ i n at. fdir_of i.lexemes n at };
+
+    fn parse(input: &Input<'_>, depth: u32, at: u32) -> Result<Part<Fdir>, ParseError> {
+        match direction_at(input, at) {
+            Some(direction) => fdir(input, depth, at, direction),
+            None => Err(ParseError::NoTree { at }),
+        }
+    }
+}
+
+/// Whether a token begins the leading words of a formal or a port.
+pub fn opens_dir(first: Option<Lexeme>) -> bool
+    ensures { result ≡ opens_dir first }
+{
+    direction(first).is_some()
+}
+
+impl Begin for Fdir {
+    ghost opens = { opens_dir };
+
+    fn begins(first: Option<Lexeme>) -> bool {
+        opens_dir(first)
+    }
+}
+
+impl Parse for Formal {
+    ghost reading = { λ i n at. formal_of i.lexemes n at };
+
+    fn parse(input: &Input<'_>, depth: u32, at: u32) -> Result<Part<Formal>, ParseError> {
+        let fdir = optional(input, depth, at)?;
+        input.name(fdir.end)?;
+        Ok(Part {
+            tree: Formal {
+                at,
+                fdir: fdir.tree,
+                name: fdir.end,
+            },
+            end: fdir.end + 1,
+        })
+    }
+}
+
+/// Formals of one kind.
+fn formals(input: &Input<'_>, depth: u32, at: u32) -> Result<Part<Arg>, ParseError>
+    ensures { Gives result (formals_of input.now.lexemes depth at) }
+{
+    let fdir = Fdir::parse(input, depth, at)?;
+    let names = names(input, depth, fdir.end)?;
+    input.expect(names.end, Lexeme::Semicolon)?;
+    Ok(Part {
+        tree: Arg::Formals {
+            at,
+            fdir: fdir.tree,
+            names: names.tree,
+        },
+        end: names.end + 1,
+    })
+}
+
+impl Parse for Arg {
+    ghost reading = { λ i n at. arg_of i.lexemes n at };
+
+    fn parse(input: &Input<'_>, depth: u32, at: u32) -> Result<Part<Arg>, ParseError> {
+        if opens_dir(input.get(at)) {
+            return formals(input, depth, at);
+        }
+        let local = Local::parse(input, depth, at)?;
+        Ok(Part {
+            tree: Arg::Local {
+                at,
+                local: local.tree,
+            },
+            end: local.end,
+        })
+    }
+}
+
+impl Begin for Arg {
+    ghost opens = { opens_arg };
+
+    fn begins(first: Option<Lexeme>) -> bool {
+        opens_dir(first) || Local::begins(first)
+    }
+}
+
+/// Whether the first of a list of formals has its leading words.
+fn led(formals: &[Formal]) -> bool
+    ensures { result ≡ first_led (λ f. f.fdir) formals.now }
+{
+    match formals.first() {
+        Some(formal) => formal.fdir.is_some(),
+        None => true,
+    }
+}
+
+/// Formals in parentheses, and local variables.
+fn listed_args(input: &Input<'_>, depth: u32, at: u32) -> Result<Part<Args>, ParseError>
+    requires { at < 2 ^ 32 - 2 }
+    ensures { Gives result (listed_args input.now.lexemes depth at) }
+{
+    let formals = listed(input, depth, at + 1)?;
+    input.expect(formals.end, Lexeme::CloseParen)?;
+    if !led(formals.tree.as_slice()) {
+        return Err(ParseError::NoTree { at: at + 1 });
+    }
+    input.expect(formals.end + 1, Lexeme::Semicolon)?;
+    let locals = many(input, depth, formals.end + 2)?;
+    Ok(Part {
+        tree: Args::Listed {
+            at,
+            formals: formals.tree,
+            locals: locals.tree,
+        },
+        end: locals.end,
+    })
+}
+
+/// Declarations of formals and local variables.
+fn declared_args(input: &Input<'_>, depth: u32, at: u32) -> Result<Part<Args>, ParseError>
+    ensures { Gives result (declared_args input.now.lexemes depth at) }
+{
+    input.expect(at, Lexeme::Semicolon)?;
+    let args = many(input, depth, at + 1)?;
+    Ok(Part {
+        tree: Args::Declared {
+            at,
+            args: args.tree,
+        },
+        end: args.end,
+    })
+}
+
+impl Parse for Args {
+    ghost reading = { λ i n at. args_of i.lexemes n at };
+
+    fn parse(input: &Input<'_>, depth: u32, at: u32) -> Result<Part<Args>, ParseError> {
+        if input.is_at(at, Lexeme::OpenParen) {
+            listed_args(input, depth, at)
+        } else {
+            declared_args(input, depth, at)
+        }
+    }
+}
+
+impl Parse for Task {
+    ghost reading = { λ i n at. task_of i.lexemes i.names n at };
+
+    fn parse(input: &Input<'_>, depth: u32, at: u32) -> Result<Part<Task>, ParseError> {
+        input.expect(at, Lexeme::Task)?;
+        input.name(at + 1)?;
+        let args = Args::parse(input, depth, at + 2)?;
+        let body = stmt(input, depth, args.end)?;
+        input.expect(body.end, Lexeme::Endtask)?;
+        Ok(Part {
+            tree: Task {
+                at,
+                name: at + 1,
+                args: args.tree,
+                body: body.tree,
+            },
+            end: body.end + 1,
+        })
+    }
+}
+
+/// Whether leading words begin with `input`.
+fn is_input(fdir: &Fdir) -> bool
+    ensures { result ≡ is_input fdir.now }
+{
+    let (Fdir::Vector { direction, .. } | Fdir::Integer { direction, .. }) = fdir;
+    *direction == Direction::Input
+}
+
+/// A function has inputs only, and at least one.
+fn is_function_args(args: &Args) -> bool
+    ensures { result ≡ is_function_args args.now }
+{
+    match args {
+        Args::Listed { formals, .. } => {
+            !formals.is_empty() && all_input_formals(formals.as_slice())
+        }
+        Args::Declared { args, .. } => {
+            all_input_args(args.as_slice()) && any_formals(args.as_slice())
+        }
+    }
+}
+
+fn all_input_formals(formals: &[Formal]) -> bool
+    ensures { result ≡ list_all is_input_formal formals.now }
+{
+    formals.iter().all(is_input_formal)
+}
+
+fn all_input_args(args: &[Arg]) -> bool
+    ensures { result ≡ list_all is_input_arg args.now }
+{
+    args.iter().all(is_input_arg)
+}
+
+fn any_formals(args: &[Arg]) -> bool
+    ensures { result ≡ list_any is_formals args.now }
+{
+    args.iter().any(is_formals)
+}
+
+fn is_input_formal(formal: &Formal) -> bool
+    ensures { result ≡ is_input_formal formal.now }
+{
+    match &formal.fdir {
+        Some(fdir) => is_input(fdir),
+        None => true,
+    }
+}
+
+fn is_input_arg(arg: &Arg) -> bool
+    ensures { result ≡ is_input_arg arg.now }
+{
+    match arg {
+        Arg::Formals { fdir, .. } => is_input(fdir),
+        Arg::Local { .. } => true,
+    }
+}
+
+fn is_formals(arg: &Arg) -> bool
+    ensures { result ≡ is_formals arg.now }
+{
+    matches!(arg, Arg::Formals { .. })
+}
+
+/// The name and the arguments of a function.
+fn inputs(input: &Input<'_>, depth: u32, at: u32) -> Result<Part<Args>, ParseError>
+    ensures { Gives result (inputs_of input.now.lexemes depth at) }
+{
+    input.name(at)?;
+    let args = Args::parse(input, depth, at + 1)?;
+    if is_function_args(&args.tree) {
+        Ok(args)
+    } else {
+        Err(ParseError::NoTree { at: args.end })
+    }
+}
+
+impl Parse for Function {
+    ghost reading = { λ i n at. function_of i.lexemes i.names n at };
+
+    fn parse(input: &Input<'_>, depth: u32, at: u32) -> Result<Part<Function>, ParseError> {
+        input.expect(at, Lexeme::Function)?;
+        let ptype = Ptype::parse(input, depth, at + 1)?;
+        let args = inputs(input, depth, ptype.end)?;
+        let body = stmt(input, depth, args.end)?;
+        input.expect(body.end, Lexeme::Endfunction)?;
+        Ok(Part {
+            tree: Function {
+                at,
+                ptype: ptype.tree,
+                name: ptype.end,
+                args: args.tree,
+                body: body.tree,
+            },
+            end: body.end + 1,
+        })
+    }
+}
+
+/// An integer type of an import.
+fn itype(input: &Input<'_>, at: u32) -> Result<Part<Itype>, ParseError>
+    ensures { Gives result (itype_of input.now.lexemes at) }
+{
+    let Some(word) = int_word_at(input, at) else {
+        return Err(ParseError::NoTree { at });
+    };
+    let sign = sign_at(input, at + 1);
+    let end = if sign.is_some() { at + 2 } else { at + 1 };
+    Ok(Part {
+        tree: Itype { at, word, sign },
+        end,
+    })
+}
+
+/// The type of what an import returns.
+fn rtype(input: &Input<'_>, at: u32) -> Result<Part<Rtype>, ParseError>
+    ensures { Gives result (rtype_of input.now.lexemes at) }
+{
+    if input.is_at(at, Lexeme::Void) {
+        return Ok(Part {
+            tree: Rtype::Void { at },
+            end: at + 1,
+        });
+    }
+    if input.is_at(at, Lexeme::Bit) {
+        return Ok(Part {
+            tree: Rtype::Bit { at },
+            end: at + 1,
+        });
+    }
+    let itype = itype(input, at)?;
+    Ok(Part {
+        tree: Rtype::Number {
+            at,
+            itype: itype.tree,
+        },
+        end: itype.end,
+    })
+}
+
+/// An argument of the type `bit`, with a range or none.
+fn bits(
+    input: &Input<'_>,
+    depth: u32,
+    at: u32,
+    direction: Direction,
+) -> Result<Part<Iarg>, ParseError>
+    requires { at + 1 < 2 ^ 32 - 2 }
+    ensures { Gives result (bits_of input.now.lexemes depth at direction) }
+{
+    let range = optional(input, depth, at + 2)?;
+    input.name(range.end)?;
+    Ok(Part {
+        tree: Iarg::Bits {
+            at,
+            direction,
+            range: range.tree,
+            name: range.end,
+        },
+        end: range.end + 1,
+    })
+}
+
+/// An argument of an integer type.
+fn number(input: &Input<'_>, at: u32, direction: Direction) -> Result<Part<Iarg>, ParseError>
+    requires { at < 2 ^ 32 - 2 }
+    ensures { Gives result (number_of input.now.lexemes at direction) }
+{
+    let itype = itype(input, at + 1)?;
+    input.name(itype.end)?;
+    Ok(Part {
+        tree: Iarg::Number {
+            at,
+            direction,
+            itype: itype.tree,
+            name: itype.end,
+        },
+        end: itype.end + 1,
+    })
+}
+
+impl Parse for Iarg {
+    ghost reading = { λ i n at. iarg_of i.lexemes n at };
+
+    fn parse(input: &Input<'_>, depth: u32, at: u32) -> Result<Part<Iarg>, ParseError> {
+        let Some(direction) = direction_at(input, at) else {
+            return Err(ParseError::NoTree { at });
+        };
+        if input.is_at(at + 1, Lexeme::Bit) {
+            bits(input, depth, at, direction)
+        } else {
+            number(input, at, direction)
+        }
+    }
+}
+
+/// The arguments of the import whose name stands at a place, and the tokens behind them.
+fn iargs(input: &Input<'_>, depth: u32, at: u32) -> Result<Part<Items<Iarg>>, ParseError>
+    requires { at < 2 ^ 32 - 2 }
+    ensures { Gives result (iargs_of input.now.lexemes depth at) }
+{
+    input.expect(at + 1, Lexeme::OpenParen)?;
+    let args = listed(input, depth, at + 2)?;
+    input.expect(args.end, Lexeme::CloseParen)?;
+    input.expect(args.end + 1, Lexeme::Semicolon)?;
+    Ok(Part {
+        tree: args.tree,
+        end: args.end + 2,
+    })
+}
+
+/// What stands before the type of an import, and the number of the token behind it.
+fn import_head(input: &Input<'_>, at: u32) -> Result<u32, ParseError>
+    ensures exact { Gives result (import_head input.now.lexemes at) }
+    ensures within { OnOk result (at + 1 < 2 ^ 32 - 2) }
+{
+    input.expect(at, Lexeme::Import)?;
+    input.expect(at + 1, Lexeme::Dpi)?;
+    let function = input.behind(Lexeme::Context, at + 2);
+    input.expect(function, Lexeme::Function)?;
+    Ok(function + 1)
+}
+
+impl Parse for Import {
+    ghost reading = { λ i n at. import_of i.lexemes n at };
+
+    fn parse(input: &Input<'_>, depth: u32, at: u32) -> Result<Part<Import>, ParseError> {
+        let from = import_head(input, at)?;
+        let rtype = rtype(input, from)?;
+        input.name(rtype.end)?;
+        let args = iargs(input, depth, rtype.end)?;
+        Ok(Part {
+            tree: Import {
+                at,
+                spec: at + 1,
+                context: input.is_at(at + 2, Lexeme::Context),
+                rtype: rtype.tree,
+                name: rtype.end,
+                args: args.tree,
+            },
+            end: args.end,
+        })
+    }
+}
