@@ -10,7 +10,7 @@ use Rattle.xt_bits.specs.Trace.{Call, Ending, Starved, Stalled}
 use Rattle.nt_core.specs.Tick.{settled}
 use Rattle.nt_core.specs.Ports.{process_request, edge_up}
 use Rattle.nt_core.specs.Driver.{Standing, Free, Asking, Agent, hear, hear_call, listen, is_asking, has_reply, halt, passed, pass}
-use Rattle.nt_core.specs.DesignRun.{Run, Ended, heard, seen, ticked, at_rest, tick_on, halt_or, edge_within}
+use Rattle.nt_core.specs.DesignRun.{Run, Ended, heard, in_tick, ticked, at_rest, tick_on, halt_or, edge_within}
 
 -- ---- how many more ticks there can be: a request with a reply takes its remaining wait and one more
 
@@ -107,7 +107,7 @@ edge_goes_on (suc more) n row ticks r l =
     let h : Run = heard n row r in
     let below : weight h.agents ≤ weight r.agents = listen_le n (settled n row r.state) r.agents in
     halt-some (halt h.agents) h (tick_on (edge_within more n row) n row (suc ticks) h) (λ none.
-    if-some (edge_up n (seen n row h)) (at_rest n row (suc ticks + 1) (ticked n row h)) (edge_within more n row (suc ticks + 1) (ticked n row h)) (λ down.
+    if-some (edge_up n (in_tick n row h)) (at_rest n row (suc ticks + 1) (ticked n row h)) (edge_within more n row (suc ticks + 1) (ticked n row h)) (λ down.
     let less : weight (ticked n row h).agents < weight h.agents = passes_lt h.agents (halt_none h.agents none) in
     let next : suc ticks + 1 ≡ suc (suc ticks) = omega arith in
     subst (λ t. EndsWithin more n row t (ticked n row h)) (sym next) (edge_goes_on more n row (suc ticks) (ticked n row h) (omega arith))))
@@ -118,5 +118,5 @@ edge_ends more n row r l =
     let h : Run = heard n row r in
     let below : weight h.agents ≤ weight r.agents = listen_le n (settled n row r.state) r.agents in
     let same : weight (ticked n row h).agents ≤ weight h.agents = passes_le h.agents in
-    if-some (edge_up n (seen n row h)) (at_rest n row 1 (ticked n row h)) (edge_within more n row 1 (ticked n row h)) (λ down.
+    if-some (edge_up n (in_tick n row h)) (at_rest n row 1 (ticked n row h)) (edge_within more n row 1 (ticked n row h)) (λ down.
     edge_goes_on more n row 0 (ticked n row h) (omega arith))

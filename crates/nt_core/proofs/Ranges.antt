@@ -13,7 +13,7 @@ use Rattle.nt_core.specs.Sources.{Sources}
 use Rattle.nt_core.specs.Forms.{IsWidth, widths, form_width, HasOperands, constant_of, IsNode}
 use Rattle.nt_core.specs.Conditions.{HasSource, AreNodes, IsNetlist}
 use Rattle.nt_core.specs.NodeValue.{value_of, values}
-use Rattle.nt_core.specs.Fitting.{value_widths, Fits}
+use Rattle.nt_core.specs.Fitting.{value_widths, SourcesFit}
 use Rattle.nt_core.proofs.Values.{values-push, value_of-width}
 
 -- all of these widths are in range
@@ -77,13 +77,13 @@ nodes-in_range ns are i h = in_range_below ns are (suc i) i (omega arith) (omega
 -- ---- values
 
 -- the first elements with one more
-take-suc_at : {X : Type 0} (xs : List X) (i : ℕ) (x : X) → slice_get xs i ≡ Some x → take (suc i) xs ≡ take i xs ++ x ∷ []
+pub take-suc_at : {X : Type 0} (xs : List X) (i : ℕ) (x : X) → slice_get xs i ≡ Some x → take (suc i) xs ≡ take i xs ++ x ∷ []
 take-suc_at [] i x e = absurd (none-some x e)
 take-suc_at (y ∷ xs) zero x e = ap (λ z. z ∷ []) (same_Some y x e)
 take-suc_at (y ∷ xs) (suc i) x e = ap (λ z. y ∷ z) (take-suc_at xs i x e)
 
 -- one more node has a value of its width
-values-widths_more : (n : Parts) (s : Sources) → Fits n s → (i : ℕ) (m : Node) → slice_get n.nodes i ≡ Some m → HasSource n m.op → IsNode (take i (widths n.nodes)) m
+values-widths_more : (n : Parts) (s : Sources) → SourcesFit n s → (i : ℕ) (m : Node) → slice_get n.nodes i ≡ Some m → HasSource n m.op → IsNode (take i (widths n.nodes)) m
     → value_widths (values (take i n.nodes) s) ≡ take i (widths n.nodes)
     → value_widths (values (take (suc i) n.nodes) s) ≡ take (suc i) (widths n.nodes)
 values-widths_more n s fits i m e src is before =
@@ -102,7 +102,7 @@ values-widths_more n s fits i m e src is before =
     whole ∙ ap (λ ws. ws ++ v.width ∷ []) before ∙ ap (λ w. take i (widths n.nodes) ++ w ∷ []) width ∙ sym ends
 
 -- the values of the first nodes have those nodes' widths
-pub values-widths_to : (n : Parts) (s : Sources) → Fits n s → AreNodes n.nodes → All (λ m. HasSource n m.op) n.nodes → (i : ℕ) → i ≤ length n.nodes
+pub values-widths_to : (n : Parts) (s : Sources) → SourcesFit n s → AreNodes n.nodes → All (λ m. HasSource n m.op) n.nodes → (i : ℕ) → i ≤ length n.nodes
     → value_widths (values (take i n.nodes) s) ≡ take i (widths n.nodes)
 values-widths_to n s fits are src zero h = refl
 values-widths_to n s fits are src (suc i) h =
@@ -112,14 +112,14 @@ values-widths_to n s fits are src (suc i) h =
     (subst (λ k. HasSource n k.op) (get_or_from_slice_get n.nodes i m.0 m.0 m.1) (src i m.0 l)) (are.each i m.0 m.1)
     (values-widths_to n s fits are src i (omega arith))
 
-pub values-widths : (n : Parts) (s : Sources) → Fits n s → AreNodes n.nodes → All (λ m. HasSource n m.op) n.nodes → value_widths (values n.nodes s) ≡ widths n.nodes
+pub values-widths : (n : Parts) (s : Sources) → SourcesFit n s → AreNodes n.nodes → All (λ m. HasSource n m.op) n.nodes → value_widths (values n.nodes s) ≡ widths n.nodes
 values-widths n s fits are src =
     ap (λ ns. value_widths (values ns s)) (sym (take_all (length n.nodes) n.nodes (omega arith)))
     ∙ values-widths_to n s fits are src (length n.nodes) (omega arith)
     ∙ take_all (length n.nodes) (widths n.nodes) (omega (arith, length-map n.nodes (λ (m : Node). m.width)))
 
 -- a node's operands are among the values of the nodes before it
-pub values-operands : (n : Parts) (s : Sources) → Fits n s → IsNetlist n → (i : ℕ) (m : Node) → slice_get n.nodes i ≡ Some m
+pub values-operands : (n : Parts) (s : Sources) → SourcesFit n s → IsNetlist n → (i : ℕ) (m : Node) → slice_get n.nodes i ≡ Some m
     → HasOperands (value_widths (values (take i n.nodes) s)) m.op
 values-operands n s fits is i m e =
     subst (λ ws. HasOperands ws m.op)

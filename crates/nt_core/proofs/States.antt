@@ -14,7 +14,7 @@ use Rattle.nt_core.specs.Forms.{widths}
 use Rattle.nt_core.specs.Conditions.{IsWrite, IsNetlist}
 use Rattle.nt_core.specs.NodeValue.{value_at}
 use Rattle.nt_core.specs.Tick.{start, written, next, tick, tick_values}
-use Rattle.nt_core.specs.Fitting.{value_widths, IsState, Fits}
+use Rattle.nt_core.specs.Fitting.{value_widths, IsState, SourcesFit}
 use Rattle.nt_core.proofs.Values.{get-width}
 use Rattle.nt_core.proofs.Ranges.{values-widths}
 
@@ -100,7 +100,7 @@ pub start_ok : {E : Type 0} (n : Parts) (r : Result State E) → IfOk r (λ s. s
 start_ok n (Ok s) e = subst (IsState n) (sym e) (start_fits n)
 start_ok n (Err x) e = tt
 
-pub tick_ok : {E : Type 0} (n : Parts) (inputs : Inputs) (state : State) (r : Result State E) → IsNetlist n → Fits n (record { inputs = inputs; state = state })
+pub tick_ok : {E : Type 0} (n : Parts) (inputs : Inputs) (state : State) (r : Result State E) → IsNetlist n → SourcesFit n (record { inputs = inputs; state = state })
     → IfOk r (λ s. s ≡ tick n inputs state) → IfOk r (λ s. IsState n s)
 tick_ok n inputs state (Ok s) is fits e =
     subst (IsState n) (sym e)

@@ -9,7 +9,7 @@ use Rattle.xt_bits.specs.Trace.{Ending, Rested, Starved, Stalled, Trace}
 use Rattle.nt_core.specs.Tick.{settled}
 use Rattle.nt_core.specs.Ports.{edge_up}
 use Rattle.nt_core.specs.Driver.{Agent, listen, halt, pass}
-use Rattle.nt_core.specs.DesignRun.{Run, Ended, heard, seen, ticked, at_rest, tick_on, halt_or, step_on, edge_within, without_calls, edge_start, shown, after, trace_within, run_start, IsDesignTrace}
+use Rattle.nt_core.specs.DesignRun.{Run, Ended, heard, in_tick, ticked, at_rest, tick_on, halt_or, step_on, edge_within, without_calls, edge_start, shown, after, trace_within, run_start, IsDesignTrace}
 use Rattle.nt_core.proofs.Ends.{weight, weight_of, listen_le, passes_le, EndsWithin, edge_ends}
 
 -- ---- more ticks than are needed change nothing
@@ -25,7 +25,7 @@ if-extends false x e o p h k = h k
 tick-extends : (go more : ℕ → Run → Option Ended) (n : Parts) (row : List Word) (t : ℕ) (r : Run) (e : Ended) → Extends go more
     → tick_on go n row t r ≡ Some e → tick_on more n row t r ≡ Some e
 tick-extends go more n row t r e h k =
-    if-extends (edge_up n (seen n row r)) (at_rest n row (t + 1) (ticked n row r)) e (go (t + 1) (ticked n row r)) (more (t + 1) (ticked n row r))
+    if-extends (edge_up n (in_tick n row r)) (at_rest n row (t + 1) (ticked n row r)) e (go (t + 1) (ticked n row r)) (more (t + 1) (ticked n row r))
     (h (t + 1) (ticked n row r) e) k
 
 halt-extends : (o : Option Ending) (r : Run) (e : Ended) (p q : Option Ended) → (p ≡ Some e → q ≡ Some e) → halt_or o r p ≡ Some e → halt_or o r q ≡ Some e
@@ -60,7 +60,7 @@ tick_le : (go : ℕ → Run → Option Ended) (n : Parts) (row : List Word) (t :
     → tick_on go n row t r ≡ Some e → weight e.run.agents ≤ weight r.agents
 tick_le go n row t r e h k =
     let less : weight (map pass r.agents) ≤ weight r.agents = passes_le r.agents in
-    agents_le (edge_up n (seen n row r)) (at_rest n row (t + 1) (ticked n row r)) e (go (t + 1) (ticked n row r)) (weight r.agents) less
+    agents_le (edge_up n (in_tick n row r)) (at_rest n row (t + 1) (ticked n row r)) e (go (t + 1) (ticked n row r)) (weight r.agents) less
     (λ g. omega (arith, h (t + 1) (ticked n row r) g, less)) k
 
 step_le : (go : ℕ → Run → Option Ended) (n : Parts) (row : List Word) (t : ℕ) (r : Run) (e : Ended)

@@ -17,7 +17,7 @@ use Rattle.nt_core.specs.Forms.{form_width, HasOperands}
 use Rattle.nt_core.specs.Conditions.{HasSource}
 use Rattle.nt_core.specs.NodeValue.{value_at, value_of, values, node_value}
 use Rattle.nt_core.specs.Growth.{made, IsAdded, Grows}
-use Rattle.nt_core.specs.Fitting.{value_widths, Fits}
+use Rattle.nt_core.specs.Fitting.{value_widths, SourcesFit}
 
 -- ---- growth
 
@@ -30,7 +30,7 @@ pub values-push : (xs : List Node) (m : Node) (s : Sources) → values (xs ++ m 
 values-push xs m s = values-append xs (m ∷ []) s
 
 -- each node adds one value at the end
-folds_on : (vs : List bits.Word) (ys : List Node) (s : Sources) → (more : List bits.Word) × (fold (λ vs n. vs ++ value_of s vs n.op ∷ []) vs ys ≡ vs ++ more) × (length more ≡ length ys)
+pub folds_on : (vs : List bits.Word) (ys : List Node) (s : Sources) → (more : List bits.Word) × (fold (λ vs n. vs ++ value_of s vs n.op ∷ []) vs ys ≡ vs ++ more) × (length more ≡ length ys)
 folds_on vs [] s = ([], sym (append-nil vs), refl)
 folds_on vs (m ∷ ys) s =
     let v : bits.Word = value_of s vs m.op in
@@ -102,7 +102,7 @@ chosen-width true x y w p q = p
 chosen-width false x y w p q = q
 
 -- a form's value has the form's width
-pub value_of-width : (n : Parts) (s : Sources) → Fits n s → (vs : List bits.Word) (op : Op) → HasSource n op → HasOperands (value_widths vs) op
+pub value_of-width : (n : Parts) (s : Sources) → SourcesFit n s → (vs : List bits.Word) (op : Op) → HasSource n op → HasOperands (value_widths vs) op
     → (value_of s vs op).width ≡ form_width (value_widths vs) op
 value_of-width n s fits vs (Pin p w) src ok = get-width s.inputs.row p w (word w 0) (subst (λ l. slice_get l p ≡ Some w) (sym fits.row) src)
 value_of-width n s fits vs (Ack p) src ok = refl

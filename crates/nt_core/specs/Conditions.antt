@@ -71,10 +71,11 @@ HasSource n _ = Unit {0}
 
 -- ---- what the nodes drive
 
--- the widths of the output ports, in port order: `xtc_edge`, the output pins, then each host's request, function and arguments
+-- the widths of a host's output ports: its request, the function's number, and its arguments
 abbrev pub host_port_widths : HostLine → List ℕ
 host_port_widths h = 1 ∷ 8 ∷ h.args
 
+-- the widths of all output ports, in port order: `xtc_edge`, the output pins, then each host's
 abbrev pub port_widths : Parts → List ℕ
 port_widths n = 1 ∷ map (λ o. o.width) n.outputs ++ flat_map host_port_widths n.hosts
 

@@ -20,10 +20,11 @@ pub record Run : Type 0 where
   pub state : State
   pub agents : List Agent
 
--- a run at first: each process has its replies before it
+-- a process at first has all its replies before it
 abbrev pub agent_start : List Reply → Agent
 agent_start replies = record { standing = Free; left = replies; calls = [] }
 
+-- a run at first: the design at its start, and each process with its replies before it
 abbrev pub run_start : Parts → Stimulus → Run
 run_start n stimulus = record { state = start n; agents = map agent_start stimulus.replies }
 
@@ -32,12 +33,12 @@ abbrev pub heard : Parts → List Word → Run → Run
 heard n row r = record r { agents = listen n (settled n row r.state) r.agents }
 
 -- the values of the nodes in the tick that follows
-abbrev pub seen : Parts → List Word → Run → List Word
-seen n row r = tick_values n (driven row r.agents) r.state
+abbrev pub in_tick : Parts → List Word → Run → List Word
+in_tick n row r = tick_values n (driven row r.agents) r.state
 
 -- a run after that tick
 abbrev pub ticked : Parts → List Word → Run → Run
-ticked n row r = record { state = next n (seen n row r) r.state; agents = map pass r.agents }
+ticked n row r = record { state = next n (in_tick n row r) r.state; agents = map pass r.agents }
 
 -- an edge that has come to its end, and the run there
 pub record Ended : Type 0 where
@@ -51,13 +52,14 @@ at_rest n row ticks r = record { ending = Rested ticks (outputs n (settled n row
 -- one tick, and what follows it where the edge isn't ended by it
 abbrev pub tick_on : (ℕ → Run → Option Ended) → Parts → List Word → ℕ → Run → Option Ended
 tick_on go n row ticks r =
-    if edge_up n (seen n row r) then Some (at_rest n row (ticks + 1) (ticked n row r)) else go (ticks + 1) (ticked n row r)
+    if edge_up n (in_tick n row r) then Some (at_rest n row (ticks + 1) (ticked n row r)) else go (ticks + 1) (ticked n row r)
 
--- an edge's first tick is always made; each other one where nothing halts it
+-- what goes on where nothing halts it, else the end of the edge
 abbrev pub halt_or : Option Ending → Run → Option Ended → Option Ended
 halt_or None r on = on
 halt_or (Some ending) r on = Some (record { ending = ending; run = r })
 
+-- before a tick, where so many were made in the edge: its first tick is always made, and each other one where nothing halts it
 abbrev pub step_on : (ℕ → Run → Option Ended) → Parts → List Word → ℕ → Run → Option Ended
 step_on go n row zero r = tick_on go n row zero r
 step_on go n row (suc ticks) r = halt_or (halt r.agents) r (tick_on go n row (suc ticks) r)
@@ -75,6 +77,7 @@ shown e = record { calls = map (λ a. a.calls) e.run.agents; ending = e.ending }
 abbrev pub without_calls : Agent → Agent
 without_calls a = record a { calls = [] }
 
+-- and so for all processes
 abbrev pub edge_start : Run → Run
 edge_start r = record r { agents = map without_calls r.agents }
 

@@ -21,11 +21,12 @@ pub record Agent : Type 0 where
 
 -- ---- before a tick
 
--- a request that is new is recorded, and draws the next reply; one that is down is forgotten, with its reply
+-- a request that is up: a new one is recorded, and draws the next reply
 abbrev pub hear_call : Call → Standing → Agent → Agent
 hear_call call Free a = record { standing = Asking (slice_get a.left 0) 0; left = drop 1 a.left; calls = a.calls ++ call ∷ [] }
 hear_call call (Asking reply ticks) a = a
 
+-- what a process asks for before a tick, if it asks; a request that is down is forgotten, with its reply
 abbrev pub hear : Option Call → Agent → Agent
 hear None a = record a { standing = Free }
 hear (Some call) a = hear_call call a.standing a
@@ -57,6 +58,7 @@ abbrev pub reply_due : Option Reply → ℕ → Option (List ℕ)
 reply_due None ticks = None
 reply_due (Some reply) ticks = if nat_le reply.wait ticks then Some reply.items else None
 
+-- the same, by how the request stands
 abbrev pub due : Standing → Option (List ℕ)
 due Free = None
 due (Asking reply ticks) = reply_due reply ticks
@@ -71,9 +73,11 @@ driven row agents = record {
 
 -- ---- after a tick
 
+-- a request that was acknowledged is free again, and any other that is up has been so for a tick more
 abbrev pub passed : Standing → Standing
 passed Free = Free
 passed (Asking reply ticks) = if is_some (reply_due reply ticks) then Free else Asking reply (ticks + 1)
 
+-- and so for a process
 abbrev pub pass : Agent → Agent
 pass a = record a { standing = passed a.standing }

@@ -9,9 +9,9 @@ use Rattle.nt_core.specs.Sources.{State, Sources}
 abbrev pub value_widths : List Word → List ℕ
 value_widths vs = map (λ v. v.width) vs
 
--- one value for each input pin, of its width
-abbrev pub IsRow : Parts → List Word → Type 0
-IsRow n row = value_widths row ≡ map (λ i. i.width) n.inputs
+-- one value for each input pin, of its width in bits
+abbrev pub HasPinWidths : Parts → List Word → Type 0
+HasPinWidths n row = value_widths row ≡ map (λ i. i.width) n.inputs
 
 -- one value for each register, of its width, and for each memory all its words
 pub record IsState (n : Parts) (s : State) : Type 0 where
@@ -19,6 +19,6 @@ pub record IsState (n : Parts) (s : State) : Type 0 where
   pub memories : map value_widths s.memories ≡ map (λ m. replicate m.words m.width) n.memories
 
 -- all that the nodes read
-pub record Fits (n : Parts) (s : Sources) : Type 0 where
-  pub row : IsRow n s.inputs.row
+pub record SourcesFit (n : Parts) (s : Sources) : Type 0 where
+  pub row : HasPinWidths n s.inputs.row
   pub state : IsState n s.state

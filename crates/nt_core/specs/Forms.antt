@@ -1,5 +1,5 @@
 -- The forms of nodes: the width that each gives, and what its operands have to be. All of it is this project's own.
-use Rattle.std.specs.Prelude.{◌≡◌, ◌≢◌, ℕ, ◌+◌, ◌-◌, ◌<◌, ◌≤◌, List, map, length, slice_index, Option, Some, None, IfSome}
+use Rattle.std.specs.Prelude.{◌≡◌, ◌≢◌, ℕ, ◌+◌, ◌-◌, ◌<◌, ◌≤◌, List, [], ◌∷◌, map, length, slice_index, Option, Some, None, IfSome}
 use Rattle.xt_base.specs.declared.TheConstants.{MAX_WIDTH}
 use Rattle.xt_bits.specs.Word.{IsKept}
 use Rattle.xt_bits.specs.Word as bits
@@ -45,6 +45,33 @@ form_width ws (Choice a b c) = slice_index ws b
 form_width ws (Concat a b) = slice_index ws a + slice_index ws b
 form_width ws (Slice a high low) = high - low + 1
 form_width ws (Copies a times) = times
+
+-- the nodes that a form reads
+abbrev pub operands : Op → List ℕ
+operands (Word m a w) = a ∷ []
+operands (Not a) = a ∷ []
+operands (And a b) = a ∷ b ∷ []
+operands (Or a b) = a ∷ b ∷ []
+operands (Xor a b) = a ∷ b ∷ []
+operands (Add a b) = a ∷ b ∷ []
+operands (Sub a b) = a ∷ b ∷ []
+operands (Mul a b) = a ∷ b ∷ []
+operands (Div a k) = a ∷ []
+operands (Rem a k) = a ∷ []
+operands (SDiv a k) = a ∷ []
+operands (SRem a k) = a ∷ []
+operands (Shl a b) = a ∷ b ∷ []
+operands (Shr a b) = a ∷ b ∷ []
+operands (Sar a b) = a ∷ b ∷ []
+operands (Eq a b) = a ∷ b ∷ []
+operands (Lt a b) = a ∷ b ∷ []
+operands (SLt a b) = a ∷ b ∷ []
+operands (Parity a) = a ∷ []
+operands (Choice a b c) = a ∷ b ∷ c ∷ []
+operands (Concat a b) = a ∷ b ∷ []
+operands (Slice a high low) = a ∷ []
+operands (Copies a times) = a ∷ []
+operands _ = []
 
 -- two earlier nodes of one width
 abbrev pub AreAlike : List ℕ → ℕ → ℕ → Type 0

@@ -28,8 +28,8 @@ abbrev pub request_port : Parts → ℕ → ℕ
 request_port n host = 1 + length n.outputs + sum_by (λ h. 2 + length h.args) (take host n.hosts)
 
 -- the request is up
-abbrev pub asks : Parts → List Word → ℕ → Bool
-asks n vs host = any_of (port n vs (request_port n host))
+abbrev pub request_up : Parts → List Word → ℕ → Bool
+request_up n vs host = any_of (port n vs (request_port n host))
 
 -- the number of the function that is asked for
 abbrev pub function_number : Parts → List Word → ℕ → ℕ
@@ -58,7 +58,7 @@ call_of n vs host (Some f) = Called (function_number n vs host) (map (λ i. inpu
 -- what a host asks for, if its request is up
 abbrev pub request_of : Parts → List Word → Option ℕ → Option Call
 request_of n vs None = None
-request_of n vs (Some host) = if asks n vs host then Some (call_of n vs host (slice_get n.functions (function_number n vs host))) else None
+request_of n vs (Some host) = if request_up n vs host then Some (call_of n vs host (slice_get n.functions (function_number n vs host))) else None
 
 -- what a process asks for, if it has a host whose request is up
 abbrev pub process_request : Parts → List Word → ℕ → Option Call

@@ -17,6 +17,7 @@ pub record State : Type 0 where
   pub registers : List Word
   pub memories : List (List Word)
 
+-- all that the nodes read
 pub record Sources : Type 0 where
   pub inputs : Inputs
   pub state : State

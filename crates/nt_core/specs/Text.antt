@@ -28,32 +28,41 @@ hex_digits (suc count) n = hex_digits count (n / 16) ++ digit_glyph false (n % 1
 abbrev pub hex_text : bits.Word → List ℕ
 hex_text k = hex_digits ((k.width + 3) / 4) k.value
 
+-- a constant: its width, and its value in hexadecimal digits
 abbrev pub constant_text : bits.Word → List ℕ
 constant_text k = decimal k.width ++ codes "'h" ++ hex_text k
 
+-- the same of a constant that is read as a signed number
 abbrev pub signed_constant_text : bits.Word → List ℕ
 signed_constant_text k = decimal k.width ++ codes "'sh" ++ hex_text k
 
 -- ---- names
 
+-- the names of the design's own, by their numbers: a node
 abbrev pub node_name : ℕ → List ℕ
 node_name i = codes "xtc_n" ++ decimal i
 
+-- a register
 abbrev pub register_name : ℕ → List ℕ
 register_name i = codes "xtc_r" ++ decimal i
 
+-- a memory
 abbrev pub memory_name : ℕ → List ℕ
 memory_name i = codes "xtc_m" ++ decimal i
 
+-- the pins of a process with host calls: what their names begin with
 abbrev pub host_name : ℕ → List ℕ
 host_name p = codes "xtc_p" ++ decimal p
 
+-- its request is acknowledged
 abbrev pub ack_name : ℕ → List ℕ
 ack_name p = host_name p ++ codes "_ack"
 
+-- an item of its reply
 abbrev pub ret_name : ℕ → ℕ → List ℕ
 ret_name p i = host_name p ++ codes "_ret" ++ decimal i
 
+-- an argument of its call
 abbrev pub arg_name : ℕ → ℕ → List ℕ
 arg_name p i = host_name p ++ codes "_arg" ++ decimal i
 
@@ -61,6 +70,7 @@ arg_name p i = host_name p ++ codes "_arg" ++ decimal i
 abbrev pub host_port_names : HostLine → List (List ℕ)
 host_port_names h = (host_name h.process ++ codes "_req") ∷ (host_name h.process ++ codes "_fn") ∷ map (λ i. arg_name h.process i.0) (enumerate_from 0 h.args)
 
+-- of all: `xtc_edge`, the output pins, then each host's
 abbrev pub port_names : Parts → List (List ℕ)
 port_names n = codes "xtc_edge" ∷ map (λ o. o.name) n.outputs ++ flat_map host_port_names n.hosts
 
@@ -70,9 +80,11 @@ port_names n = codes "xtc_edge" ∷ map (λ o. o.name) n.outputs ++ flat_map hos
 abbrev pub infix_text : List ℕ → ℕ → ℕ → List ℕ
 infix_text operator a b = node_name a ++ operator ++ node_name b
 
+-- a node that is read as a signed number
 abbrev pub signed_text : ℕ → List ℕ
 signed_text a = codes "$signed(" ++ node_name a ++ codes ")"
 
+-- a form; a pin goes by its own name
 abbrev pub form_text : Parts → Op → List ℕ
 form_text n (Pin p w) = get_or (map (λ i. i.name) n.inputs) p []
 form_text n (Ack p) = ack_name p
@@ -109,24 +121,31 @@ form_text n (Copies a times) = codes "{" ++ decimal times ++ codes "{" ++ node_n
 abbrev pub numbered : {X : Type 0} → (ℕ → X → List ℕ) → List X → List (List ℕ)
 numbered line xs = map (λ i. line i.0 i.1) (enumerate_from 0 xs)
 
+-- widths, each after a blank
 abbrev pub width_texts : List ℕ → List ℕ
 width_texts ws = flat_map (λ w. codes " " ++ decimal w) ws
 
+-- a function of the host: its name, then the widths of its inputs and of its reply items
 abbrev pub function_line : FunctionLine → List ℕ
 function_line f = codes "// function " ++ f.name ++ codes " in" ++ width_texts f.ins ++ codes " out" ++ width_texts f.rets
 
+-- the version, the number of processes, the functions, and the module's first line
 abbrev pub head_lines : Parts → List (List ℕ)
 head_lines n = (codes "// xtc design " ++ decimal n.version) ∷ (codes "// processes " ++ decimal n.processes) ∷ map function_line n.functions ++ codes "module xtc_design (" ∷ []
 
+-- an input pin of a width and a name; another pin always follows
 abbrev pub input_line : ℕ → List ℕ → List ℕ
 input_line w name = codes "  input wire " ++ range_text w ++ name ++ codes ","
 
+-- a host's input pins: the acknowledgement, then the reply items
 abbrev pub host_input_lines : HostLine → List (List ℕ)
 host_input_lines h = input_line 1 (ack_name h.process) ∷ numbered (λ i w. input_line w (ret_name h.process i)) h.rets
 
+-- all input pins, the clock first
 abbrev pub input_lines : Parts → List (List ℕ)
 input_lines n = input_line 1 (codes "xtc_clk") ∷ map (λ i. input_line i.width i.name) n.inputs ++ flat_map host_input_lines n.hosts
 
+-- an output pin of a width and a name
 abbrev pub output_line : ℕ → List ℕ → List ℕ
 output_line w name = codes "  output wire " ++ range_text w ++ name
 
@@ -136,33 +155,43 @@ with_commas [] = []
 with_commas (line ∷ []) = line ∷ []
 with_commas (line ∷ following ∷ rest) = (line ++ codes ",") ∷ with_commas (following ∷ rest)
 
+-- all output pins, in port order, and the end of the pins
 abbrev pub output_lines : Parts → List (List ℕ)
 output_lines n = with_commas (map (λ p. output_line p.0 p.1) (zip (port_widths n) (port_names n))) ++ codes ");" ∷ []
 
+-- a register with its start value
 abbrev pub register_line : ℕ → bits.Word → List ℕ
 register_line i k = codes "  reg " ++ range_text k.width ++ register_name i ++ codes " = " ++ constant_text k ++ codes ";"
 
+-- a memory, by the number of its last word
 abbrev pub memory_line : ℕ → Memory → List ℕ
 memory_line i m = codes "  reg " ++ range_text m.width ++ memory_name i ++ codes " [0:" ++ decimal (m.words - 1) ++ codes "];"
 
+-- a node with its form
 abbrev pub node_line : Parts → ℕ → Node → List ℕ
 node_line n i m = codes "  wire " ++ range_text m.width ++ node_name i ++ codes " = " ++ form_text n m.op ++ codes ";"
 
+-- an output pin and the node that drives it
 abbrev pub assign_line : List ℕ → ℕ → List ℕ
 assign_line name a = codes "  assign " ++ name ++ codes " = " ++ node_name a ++ codes ";"
 
+-- a register and the node of its next value
 abbrev pub next_line : ℕ → ℕ → List ℕ
 next_line i a = codes "    " ++ register_name i ++ codes " <= " ++ node_name a ++ codes ";"
 
+-- a write to a memory under its condition
 abbrev pub write_line : MemWrite → List ℕ
 write_line w = codes "    if (" ++ node_name w.when ++ codes ") " ++ memory_name w.memory ++ codes "[" ++ node_name w.index ++ codes "] <= " ++ node_name w.value ++ codes ";"
 
+-- the registers, the memories and the nodes
 abbrev pub declaration_lines : Parts → List (List ℕ)
 declaration_lines n = numbered register_line n.registers ++ numbered memory_line n.memories ++ numbered (node_line n) n.nodes
 
+-- all output pins with the nodes that drive them, in port order
 abbrev pub assign_lines : Parts → List (List ℕ)
 assign_lines n = map (λ p. assign_line p.0 p.1) (zip (port_names n) n.drives)
 
+-- what each edge of the clock does, and the module's end
 abbrev pub clock_lines : Parts → List (List ℕ)
 clock_lines n = codes "  always @(posedge xtc_clk) begin" ∷ numbered next_line n.nexts ++ map write_line n.writes ++ codes "  end" ∷ codes "endmodule" ∷ []
 

@@ -2,6 +2,7 @@
 use Rattle.nt_core.specs.declared.netlist.Netlist.TheInside.{Inside}
 use Rattle.nt_core.specs.Parts.{Parts}
 
+-- a netlist of the code, with its lists as plain ones
 abbrev pub parts_of : Inside → Parts
 parts_of n = record {
   version = n.version;

@@ -360,7 +360,7 @@ impl Shell {
         are_distinct(self.inputs.as_slice(), self.outputs.as_slice()) && self.fits_distinct(nodes)
     }
 
-    /// Whether this shell, no two of whose pins have one name, and these nodes make a netlist.
+    /// The same of a shell no two of whose pins have one name.
     ///
     /// Its time is linear in the length of the parts.
     pub fn fits_distinct(&self, nodes: &[Node]) -> bool

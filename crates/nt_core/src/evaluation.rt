@@ -4,7 +4,7 @@ ghost use Rattle.xt_bits.specs.Word.{word, truth};
 ghost use Rattle.xt_bits.specs.Operators.{any_of, select_of};
 ghost use Rattle.nt_core.specs.Forms.{IsWidth, HasOperands, widths};
 ghost use Rattle.nt_core.specs.Sources.{silent};
-ghost use Rattle.nt_core.specs.Fitting.{value_widths, IsRow, IsState, Fits};
+ghost use Rattle.nt_core.specs.Fitting.{value_widths, HasPinWidths, IsState, SourcesFit};
 ghost use Rattle.nt_core.specs.NodeValue.{value_at, value_of, copies_of};
 ghost use Rattle.nt_core.specs.Tick.{start, tick_values, written, next, tick};
 
@@ -102,7 +102,7 @@ fn zeros(alloc: Global, width: u32, words: u32) -> Result<Vec<Bits>, NoMemory>
 
 /// Whether there is one value for each input pin, of its width.
 pub fn is_row(netlist: &Netlist, row: &[Bits]) -> bool
-    ensures { IsTrue result ↔ IsRow netlist.now row.now }
+    ensures { IsTrue result ↔ HasPinWidths netlist.now row.now }
 {
     fit(row, netlist.inputs.as_slice())
 }
@@ -144,7 +144,7 @@ pub fn evaluate(
     inputs: &Inputs,
     state: &State,
 ) -> Result<Vec<Bits>, NoMemory>
-    requires { Fits netlist.now (record { inputs = inputs.now; state = state.now }) }
+    requires { SourcesFit netlist.now (record { inputs = inputs.now; state = state.now }) }
     ensures { IfOk result (λ values. values.items ≡ tick_values netlist.now inputs.now state.now) }
 {
     let mut values = Vec::new(alloc);
@@ -162,7 +162,7 @@ pub fn tick(
     inputs: &Inputs,
     state: State,
 ) -> Result<State, NoMemory>
-    requires { Fits netlist.now (record { inputs = inputs.now; state = state }) }
+    requires { SourcesFit netlist.now (record { inputs = inputs.now; state = state }) }
     ensures value { IfOk result (λ after. after ≡ tick netlist.now inputs.now state) }
     ensures fits { IfOk result (λ after. IsState netlist.now after) }
 {
@@ -176,7 +176,7 @@ fn state_after(
     inputs: &Inputs,
     state: State,
 ) -> Result<State, NoMemory>
-    requires { Fits netlist.now (record { inputs = inputs.now; state = state }) }
+    requires { SourcesFit netlist.now (record { inputs = inputs.now; state = state }) }
     ensures { IfOk result (λ after. after ≡ tick netlist.now inputs.now state) }
 {
     let values = evaluate(alloc, netlist, inputs, &state)?;

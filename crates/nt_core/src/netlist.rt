@@ -151,6 +151,7 @@ pub enum Op {
     Ack { process: u32 },
     /// An item of the process's reply.
     Ret { process: u32, item: u32, width: u32 },
+    /// A register, by its place.
     Reg { reg: u32, width: u32 },
     Const(Bits),
     /// The word of a memory, 0 past its end.
@@ -164,22 +165,31 @@ pub enum Op {
     Mul(u32, u32),
     /// Unsigned, by a constant that isn't 0.
     Div(u32, Bits),
+    /// What is left of that division.
     Rem(u32, Bits),
     /// Signed, cut towards 0.
     SDiv(u32, Bits),
+    /// What is left of that division; it has the sign of the operand.
     SRem(u32, Bits),
+    /// The first operand shifted to the left by the second; zeros come in.
     Shl(u32, u32),
+    /// To the right; zeros come in.
     Shr(u32, u32),
-    /// Shifts copies of the highest bit in.
+    /// To the right; copies of the highest bit come in.
     Sar(u32, u32),
     Eq(u32, u32),
+    /// Whether the first operand is less than the second.
     Lt(u32, u32),
+    /// The same, of signed numbers.
     SLt(u32, u32),
     /// Whether the number of ones is odd.
     Parity(u32),
+    /// The second operand where the first is 1, else the third.
     Choice(u32, u32, u32),
     /// The first operand above the second.
     Concat(u32, u32),
+    /// The bits from `high` down to `low`.
     Slice { node: u32, high: u32, low: u32 },
+    /// One bit, so many times.
     Copies { node: u32, times: u32 },
 }

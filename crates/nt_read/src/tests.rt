@@ -152,8 +152,12 @@ fn bytes_of(alloc: Global, lines: &[&str], place: usize, text: &str) -> Result<V
 #[test]
 fn designs(rt: HostRuntime) -> Result<(), Fail> {
     let alloc = rt.alloc();
-    for lines in [INVERTER.as_slice(), EVERY.as_slice()] {
-        let bytes = bytes_of(alloc, lines, lines.len(), "")?;
+    for (lines, place, text) in [
+        (INVERTER.as_slice(), INVERTER.len(), ""),
+        (INVERTER.as_slice(), 10, "  wire xtc_n2 = 1'h0;"),
+        (EVERY.as_slice(), EVERY.len(), ""),
+    ] {
+        let bytes = bytes_of(alloc, lines, place, text)?;
         let netlist = read(alloc, bytes.as_slice())?;
         let mut sink = MemSink::new(alloc, 10_000, &[])?;
         assert_eq!(rt; write(alloc, &netlist, &mut sink), WriteEnd::Written);
@@ -195,9 +199,11 @@ fn is_bad(alloc: Global, bytes: &[u8]) -> bool {
 
 #[test]
 fn prefixes(rt: HostRuntime) -> Result<(), Fail> {
-    let bytes = bytes_of(rt.alloc(), INVERTER.as_slice(), INVERTER.len(), "")?;
-    for end in 0..bytes.len() {
-        assert!(rt; is_bad(rt.alloc(), &bytes[..end]), "{end}");
+    for lines in [INVERTER.as_slice(), EVERY.as_slice()] {
+        let bytes = bytes_of(rt.alloc(), lines, lines.len(), "")?;
+        for end in 0..bytes.len() {
+            assert!(rt; is_bad(rt.alloc(), &bytes[..end]), "{end}");
+        }
     }
     Ok(())
 }

@@ -11,42 +11,57 @@ use Rattle.nt_core.specs.Conditions.{IsNetlist, port_widths}
 use Rattle.nt_core.specs.Fitting.{value_widths}
 use Rattle.nt_core.specs.NodeValue.{value_at}
 use Rattle.nt_core.specs.Ports.{port, outputs, edge_up}
-use Rattle.nt_core.specs.Tick.{start, next}
+use Rattle.nt_core.specs.Tick.{start, settled, tick_values, next}
 use Rattle.nt_core.proofs.States.{start_fits, next_fits}
 use Rattle.nt_run.specs.declared.ends.TickEnd.TheVariants.{Stalled}
-use Rattle.nt_run.specs.Acknowledged.{Acknowledged, silence}
+use Rattle.nt_run.specs.Acknowledged.{Acknowledged, silence, driven_by}
 use Rattle.nt_run.specs.Machine.{Machine, settled_values}
+use Rattle.nt_run.specs.declared.orders.Step.{Step}
+use Rattle.nt_run.specs.Order.{IsOrder}
 use Rattle.nt_run.specs.Kept.{ArePorts, IsKept}
 use Rattle.nt_run.specs.Ticks.{is_stalled, has_unanswered, values_in_tick, made_end, tick_end, ticked, after_tick}
 use Rattle.nt_run.proofs.PortLemmas.{length-drives, length-ports}
 use Rattle.nt_run.proofs.States.{zero_row, tick-widths}
 
 -- at the start
-pub kept_start : (n : Parts) → IsNetlist n → (i : Inputs) (s : State) (a : Acknowledged) (vs : List Word) (places : List ℕ)
-    → i.row ≡ map (λ p. word p.width 0) n.inputs → s ≡ start n → a ≡ silence → length vs ≡ length n.nodes → ArePorts n places → IsKept n i s a vs places false
-kept_start n is i s a vs places row state quiet count ports = record {
+pub kept_start : (n : Parts) → IsNetlist n → (i : Inputs) (s : State) (a : Acknowledged) (vs : List Word) (steps : List Step) (places : List ℕ)
+    → i.row ≡ map (λ p. word p.width 0) n.inputs → s ≡ start n → a ≡ silence → value_widths vs ≡ widths n.nodes → IsOrder n.nodes steps → ArePorts n places
+    → IsKept n i s a vs steps places false
+kept_start n is i s a vs steps places row state quiet wide whole ports = record {
   design = is;
   fits = record { row = ap value_widths row ∙ zero_row n.inputs; state = rw state (start_fits n) };
   quiet = quiet;
-  values = count;
+  values = wide;
   settled = λ e. cc;
+  order = whole;
   ports = ports;
 }
 
 -- once it has settled
-pub kept_widths : (n : Parts) (i : Inputs) (s : State) (a : Acknowledged) (vs : List Word) (places : List ℕ) (b : Bool) → IsKept n i s a vs places b → b ≡ true
-    → value_widths vs ≡ widths n.nodes
-kept_widths n i s a vs places b kept e = ap value_widths (kept.settled e) ∙ tick-widths n kept.design i (silent i.row) s kept.fits refl
+pub kept_settled : (n : Parts) (i : Inputs) (s : State) (a : Acknowledged) (vs us : List Word) (steps : List Step) (places : List ℕ) (b : Bool) → IsKept n i s a vs steps places b
+    → us ≡ tick_values n (driven_by i.row a) s → IsKept n i s a us steps places true
+kept_settled n i s a vs us steps places b kept e =
+    let made : us ≡ settled n i.row s = e ∙ ap (λ q. tick_values n (driven_by i.row q) s) kept.quiet in
+    record {
+      design = kept.design;
+      fits = kept.fits;
+      quiet = kept.quiet;
+      values = ap value_widths made ∙ tick-widths n kept.design i (silent i.row) s kept.fits refl;
+      settled = λ f. made;
+      order = kept.order;
+      ports = kept.ports;
+    }
 
 -- after a tick
-pub kept_ticked : (n : Parts) (i : Inputs) (s t : State) (a : Acknowledged) (vs us : List Word) (places : List ℕ) (b : Bool) → IsKept n i s a vs places b
-    → value_widths us ≡ widths n.nodes → t ≡ next n us s → IsKept n i t a us places false
-kept_ticked n i s t a vs us places b kept e is = record {
+pub kept_ticked : (n : Parts) (i : Inputs) (s t : State) (a : Acknowledged) (vs us : List Word) (steps : List Step) (places : List ℕ) (b : Bool) → IsKept n i s a vs steps places b
+    → value_widths us ≡ widths n.nodes → t ≡ next n us s → IsKept n i t a us steps places false
+kept_ticked n i s t a vs us steps places b kept e is = record {
   design = kept.design;
   fits = record { row = kept.fits.row; state = rw is (next_fits n us s kept.design e kept.fits.state) };
   quiet = kept.quiet;
-  values = sym (length-map us (λ (v : Word). v.width)) ∙ ap length e ∙ length-map n.nodes (λ m. m.width);
+  values = e;
   settled = λ f. cc;
+  order = kept.order;
   ports = kept.ports;
 }
 

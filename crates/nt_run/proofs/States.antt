@@ -6,7 +6,7 @@ use Rattle.nt_core.specs.Parts.{Parts}
 use Rattle.nt_core.specs.Sources.{Inputs, State}
 use Rattle.nt_core.specs.Forms.{widths}
 use Rattle.nt_core.specs.Conditions.{IsNetlist}
-use Rattle.nt_core.specs.Fitting.{value_widths, IsRow, Fits}
+use Rattle.nt_core.specs.Fitting.{value_widths, HasPinWidths, SourcesFit}
 use Rattle.nt_core.specs.Tick.{tick_values}
 use Rattle.nt_core.proofs.Ranges.{values-widths}
 
@@ -16,6 +16,6 @@ zero_row [] = refl
 zero_row (p ∷ pins) = ap (λ ws. p.width ∷ ws) (zero_row pins)
 
 -- each node's value has its width
-pub tick-widths : (n : Parts) → IsNetlist n → (i j : Inputs) (s : State) → Fits n (record { inputs = i; state = s }) → i.row ≡ j.row → value_widths (tick_values n j s) ≡ widths n.nodes
+pub tick-widths : (n : Parts) → IsNetlist n → (i j : Inputs) (s : State) → SourcesFit n (record { inputs = i; state = s }) → i.row ≡ j.row → value_widths (tick_values n j s) ≡ widths n.nodes
 tick-widths n is i j s fits same =
-    values-widths n (record { inputs = j; state = s }) (record { row = subst (IsRow n) same fits.row; state = fits.state }) is.nodes is.shell.connected.sources
+    values-widths n (record { inputs = j; state = s }) (record { row = subst (HasPinWidths n) same fits.row; state = fits.state }) is.nodes is.shell.connected.sources

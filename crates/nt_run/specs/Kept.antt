@@ -4,10 +4,13 @@ use Rattle.xt_bits.specs.Word.{Word}
 use Rattle.nt_core.specs.Parts.{Parts}
 use Rattle.nt_core.specs.Sources.{Inputs, State}
 use Rattle.nt_core.specs.Conditions.{IsNetlist, port_widths}
-use Rattle.nt_core.specs.Fitting.{Fits}
+use Rattle.nt_core.specs.Fitting.{value_widths, SourcesFit}
+use Rattle.nt_core.specs.Forms.{widths}
 use Rattle.nt_core.specs.Ports.{request_port}
 use Rattle.nt_core.specs.Tick.{settled}
 use Rattle.nt_run.specs.Acknowledged.{Acknowledged, silence}
+use Rattle.nt_run.specs.declared.orders.Step.{Step}
+use Rattle.nt_run.specs.Order.{IsOrder}
 
 -- the place of each host's first output port; a `usize` counts all ports
 pub record ArePorts (n : Parts) (ports : List ℕ) : Type 0 where
@@ -15,11 +18,12 @@ pub record ArePorts (n : Parts) (ports : List ℕ) : Type 0 where
   pub count : length ports ≡ length n.hosts
   pub each : (h : ℕ) → h < length n.hosts → slice_index ports h ≡ request_port n h
 
--- the inputs and the state fit the design; there is a value for each node, and those of a settling once it has settled
-pub record IsKept (n : Parts) (i : Inputs) (s : State) (a : Acknowledged) (vs : List Word) (places : List ℕ) (is_settled : Bool) : Type 0 where
+-- the inputs and the state fit the design; there is a value of each node's width, and those of a settling once it has settled
+pub record IsKept (n : Parts) (i : Inputs) (s : State) (a : Acknowledged) (vs : List Word) (steps : List Step) (places : List ℕ) (is_settled : Bool) : Type 0 where
   pub design : IsNetlist n
-  pub fits : Fits n (record { inputs = i; state = s })
+  pub fits : SourcesFit n (record { inputs = i; state = s })
   pub quiet : a ≡ silence
-  pub values : length vs ≡ length n.nodes
+  pub values : value_widths vs ≡ widths n.nodes
   pub settled : is_settled ≡ true → vs ≡ settled n i.row s
+  pub order : IsOrder n.nodes steps
   pub ports : ArePorts n places

@@ -1,4 +1,5 @@
 pub mod Acknowledged
 pub mod Kept
 pub mod Machine
+pub mod Order
 pub mod Ticks

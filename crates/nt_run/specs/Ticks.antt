@@ -4,7 +4,7 @@ use Rattle.std.specs.List.{enumerate_from, list_any}
 use Rattle.xt_bits.specs.Word.{Word}
 use Rattle.nt_core.specs.Parts.{Parts}
 use Rattle.nt_core.specs.Tick.{tick_values, next}
-use Rattle.nt_core.specs.Ports.{edge_up, asks, function_number}
+use Rattle.nt_core.specs.Ports.{edge_up, request_up, function_number}
 use Rattle.nt_run.specs.declared.ends.TickEnd.{TickEnd}
 use Rattle.nt_run.specs.declared.ends.TickEnd.TheVariants.{Ticked, Waiting, EdgeDone, Stalled}
 use Rattle.nt_run.specs.Acknowledged.{Acknowledged, reply_to, driven_by}
@@ -12,15 +12,15 @@ use Rattle.nt_run.specs.Machine.{Machine, settled_values}
 
 -- the number of the function that a host asks for, if its request is up
 abbrev pub requested : Parts → List Word → ℕ → Option ℕ
-requested n vs host = if asks n vs host then Some (function_number n vs host) else None
+requested n vs host = if request_up n vs host then Some (function_number n vs host) else None
 
 -- some host's request is up
 abbrev pub has_request : Parts → List Word → Bool
-has_request n vs = list_any (λ h. asks n vs h.0) (enumerate_from 0 n.hosts)
+has_request n vs = list_any (λ h. request_up n vs h.0) (enumerate_from 0 n.hosts)
 
 -- some host's request is up, and isn't acknowledged
 abbrev pub has_unanswered : Parts → List Word → Acknowledged → Bool
-has_unanswered n vs a = list_any (λ h. asks n vs h.0 && not (is_some (reply_to a h.1.process))) (enumerate_from 0 n.hosts)
+has_unanswered n vs a = list_any (λ h. request_up n vs h.0 && not (is_some (reply_to a h.1.process))) (enumerate_from 0 n.hosts)
 
 -- no tick can be made: it isn't an edge's first, and no request is up
 abbrev pub is_stalled : Machine → Bool

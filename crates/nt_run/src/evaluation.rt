@@ -1,12 +1,15 @@
 //! The values of the nodes, each written into its place.
-ghost use Rattle.std.specs.Prelude.{◌≡◌, length, take};
-ghost use Rattle.nt_core.specs.Forms.{HasOperands};
-ghost use Rattle.nt_core.specs.Fitting.{value_widths, Fits};
+ghost use Rattle.std.specs.Prelude.{◌≡◌};
+ghost use Rattle.nt_core.specs.Forms.{HasOperands, widths};
+ghost use Rattle.nt_core.specs.Conditions.{IsNetlist};
+ghost use Rattle.nt_core.specs.Fitting.{value_widths, SourcesFit};
 ghost use Rattle.nt_core.specs.NodeValue.{value_of};
 ghost use Rattle.nt_core.specs.Tick.{tick_values, settled};
 ghost use Rattle.nt_run.specs.Acknowledged.{driven_by};
+ghost use Rattle.nt_run.specs.Order.{IsOrder};
 
 use crate::acks::Acks;
+use crate::orders::Step;
 use nt_core::{Inputs, Netlist, Op, State, form_value};
 use xt_base::Item;
 use xt_bits::Bits;
@@ -14,35 +17,42 @@ use xt_bits::Bits;
 /// Writes the values of all nodes in a tick with the row of the inputs and with these acknowledgements.
 pub(crate) fn evaluate(
     netlist: &Netlist,
+    steps: &[Step],
     inputs: &Inputs,
     acks: &Acks,
     state: &State,
     values: &mut [Bits],
 )
-    requires fits { Fits netlist.now (record { inputs = inputs.now; state = state.now }) }
-    requires values { length values.old ≡ length netlist.now.nodes }
+    requires fits { SourcesFit netlist.now (record { inputs = inputs.now; state = state.now }) }
+    requires design { IsNetlist netlist.now }
+    requires steps { IsOrder netlist.now.nodes steps.now }
+    requires values { value_widths values.old ≡ widths netlist.now.nodes }
     ensures { values.new ≡ tick_values netlist.now (driven_by inputs.now.row acks.now) state.now }
 {
-    for (i, node) in netlist.nodes.as_slice().iter().enumerate() {
-        let value = value_in_tick(inputs, acks, state, &values[..i], &node.op);
-        values[i] = value;
+    for step in steps {
+        let value = value_in_tick(inputs, acks, state, &values[..step.place], &step.op);
+        values[step.place] = value;
     }
 }
 
 /// Writes the values of a tick over those of a settling. Where nothing is acknowledged they are the same.
 pub(crate) fn reevaluate(
     netlist: &Netlist,
+    steps: &[Step],
     inputs: &Inputs,
     acks: &Acks,
     state: &State,
     values: &mut [Bits],
 )
-    requires fits { Fits netlist.now (record { inputs = inputs.now; state = state.now }) }
+    requires fits { SourcesFit netlist.now (record { inputs = inputs.now; state = state.now }) }
+    requires design { IsNetlist netlist.now }
+    requires steps { IsOrder netlist.now.nodes steps.now }
+    requires values { value_widths values.old ≡ widths netlist.now.nodes }
     requires settled { values.old ≡ settled netlist.now inputs.now.row state.now }
     ensures { values.new ≡ tick_values netlist.now (driven_by inputs.now.row acks.now) state.now }
 {
     if !acks.is_quiet() {
-        evaluate(netlist, inputs, acks, state, values);
+        evaluate(netlist, steps, inputs, acks, state, values);
     }
 }
 

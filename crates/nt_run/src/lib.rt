@@ -4,6 +4,7 @@
 mod acks;
 mod ends;
 mod evaluation;
+mod orders;
 mod ports;
 mod runner;
 mod state;

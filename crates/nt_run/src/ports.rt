@@ -3,7 +3,7 @@ ghost use Rattle.std.specs.Prelude.{◌≡◌, ◌+◌, ◌<◌, IfOk, length, s
 ghost use Rattle.nt_core.specs.Conditions.{port_widths};
 ghost use Rattle.nt_core.specs.Fitting.{value_widths};
 ghost use Rattle.nt_core.specs.Forms.{widths};
-ghost use Rattle.nt_core.specs.Ports.{port, edge_up, request_port, asks, function_number, argument, argument_count};
+ghost use Rattle.nt_core.specs.Ports.{port, edge_up, request_port, request_up, function_number, argument, argument_count};
 ghost use Rattle.nt_run.specs.Kept.{ArePorts};
 ghost use Rattle.nt_run.specs.Ticks.{has_request, has_unanswered};
 
@@ -61,7 +61,7 @@ pub(crate) fn is_asking(netlist: &Netlist, values: &[Bits], ports: &[usize], hos
     requires values { value_widths values.now ≡ widths netlist.now.nodes }
     requires ports { ArePorts netlist.now ports.now }
     requires host { host < length netlist.now.hosts }
-    ensures { result ≡ asks netlist.now values.now host }
+    ensures { result ≡ request_up netlist.now values.now host }
 {
     host_port(netlist, values, ports, host, 0).any()
 }

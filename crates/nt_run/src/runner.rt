@@ -1,8 +1,9 @@
 //! A written design that runs.
 ghost use Rattle.std.specs.Prelude.{◌≡◌, ◌<◌, true, false, All, IfOk, IsTrue, length, map, slice_get};
 ghost use Rattle.xt_bits.specs.Word.{word};
-ghost use Rattle.nt_core.specs.Fitting.{IsRow};
-ghost use Rattle.nt_core.specs.Forms.{IsWidth};
+ghost use Rattle.nt_core.specs.Conditions.{AreNodes};
+ghost use Rattle.nt_core.specs.Fitting.{value_widths, HasPinWidths};
+ghost use Rattle.nt_core.specs.Forms.{IsWidth, widths};
 ghost use Rattle.nt_core.specs.Ports.{edge_up, argument, argument_count, outputs};
 ghost use Rattle.nt_run.specs.Machine.{machine_start, settled_values};
 ghost use Rattle.nt_run.specs.Ticks.{requested, has_unanswered, is_stalled, values_in_tick, ticked, tick_end, after_tick, made_end};
@@ -10,11 +11,12 @@ ghost use Rattle.nt_run.specs.Ticks.{requested, has_unanswered, is_stalled, valu
 use crate::acks::Acks;
 use crate::ends::TickEnd;
 use crate::evaluation::{evaluate, reevaluate};
+use crate::orders::{Step, order_of};
 use crate::ports::{
     argument, function_number, has_request, has_unanswered, is_asking, is_edge, port, request_ports,
 };
 use crate::state::advance;
-use nt_core::{Inputs, Netlist, State, Wire};
+use nt_core::{Inputs, Netlist, Node, State, Wire};
 use std::alloc::Global;
 use std::marker::Model;
 use xt_base::NoMemory;
@@ -34,6 +36,8 @@ pub struct Runner<'a> {
     quiet: Acks,
     /// The values of the nodes, as they were last evaluated.
     values: Vec<Bits>,
+    /// The nodes in the order in which they are evaluated.
+    steps: Vec<Step>,
     /// The place of each host's first output port.
     ports: Vec<usize>,
     is_begun: bool,
@@ -48,7 +52,7 @@ impl<'a> Model for Runner<'a> {
 
     ghost view = { λ r. record { design = r.netlist.now; row = r.inputs.row; state = r.state; is_begun = r.is_begun; is_settled = r.is_settled } };
 
-    ghost invariant = { λ r. IsKept r.netlist.now r.inputs r.state r.quiet r.values.items r.ports.items r.is_settled };
+    ghost invariant = { λ r. IsKept r.netlist.now r.inputs r.state r.quiet r.values.items r.steps.items r.ports.items r.is_settled };
 }
 
 impl<'a> Runner<'a> {
@@ -62,7 +66,8 @@ impl<'a> Runner<'a> {
             inputs: Inputs::silent(alloc, row),
             state: State::start(alloc, netlist)?,
             quiet: Acks::none(alloc),
-            values: zeros(alloc, netlist.nodes.len())?,
+            values: zeros(alloc, netlist.nodes.as_slice())?,
+            steps: order_of(alloc, netlist.nodes.as_slice())?,
             ports: request_ports(alloc, netlist)?,
             is_begun: false,
             is_settled: false,
@@ -71,7 +76,7 @@ impl<'a> Runner<'a> {
 
     /// Puts a row on the input pins.
     pub fn set_inputs(&mut self, row: &[Bits])
-        requires { IsRow self.old.design row.now }
+        requires { HasPinWidths self.old.design row.now }
         ensures { self.new ≡ record self.old { row = row.now; is_settled = false } }
     {
         put_row(&mut self.inputs, row);
@@ -85,6 +90,7 @@ impl<'a> Runner<'a> {
         if !self.is_settled {
             evaluate(
                 self.netlist,
+                &self.steps,
                 &self.inputs,
                 &self.quiet,
                 &self.state,
@@ -173,6 +179,7 @@ impl<'a> Runner<'a> {
     {
         reevaluate(
             self.netlist,
+            &self.steps,
             &self.inputs,
             acks,
             &self.state,
@@ -211,13 +218,14 @@ fn zero_row(alloc: Global, pins: &[Wire]) -> Result<Vec<Bits>, NoMemory>
     Ok(row)
 }
 
-/// So many values, for the nodes to be written over.
-fn zeros(alloc: Global, count: usize) -> Result<Vec<Bits>, NoMemory>
-    ensures { IfOk result (λ v. length v.items ≡ count) }
+/// A value of each node's width, to be written over.
+fn zeros(alloc: Global, nodes: &[Node]) -> Result<Vec<Bits>, NoMemory>
+    requires { AreNodes nodes.now }
+    ensures { IfOk result (λ v. value_widths v.items ≡ widths nodes.now) }
 {
     let mut zeros = Vec::new(alloc);
-    for _node in 0..count {
-        zeros.push(Bits::new(1, 0))?;
+    for node in nodes {
+        zeros.push(Bits::new(node.width, 0))?;
     }
     Ok(zeros)
 }

@@ -227,10 +227,10 @@ fn counter(alloc: Global) -> Result<Netlist, Fail> {
 /// Reads the word that it wrote in the tick before: d, and where its highest bit is up then twice d.
 fn memory(alloc: Global) -> Result<Netlist, Fail> {
     let forms = [
-        Op::Pin { pin: 0, width: 3 },
+        Op::Pin { pin: 0, width: 64 },
         Op::Pin { pin: 1, width: 8 },
         Op::Const(Bits::new(1, 1)),
-        Op::Reg { reg: 0, width: 3 },
+        Op::Reg { reg: 0, width: 64 },
         Op::Word {
             memory: 0,
             index: 3,
@@ -244,8 +244,8 @@ fn memory(alloc: Global) -> Result<Netlist, Fail> {
         },
     ];
     let mut shell = shell(alloc, 8, vec![in alloc; 2, 4]?)?;
-    shell.inputs = vec![in alloc; wire(alloc, "at", 3)?, wire(alloc, "d", 8)?]?;
-    shell.registers = vec![in alloc; Bits::new(3, 0)]?;
+    shell.inputs = vec![in alloc; wire(alloc, "at", 64)?, wire(alloc, "d", 8)?]?;
+    shell.registers = vec![in alloc; Bits::new(64, 0)]?;
     shell.nexts = vec![in alloc; 0]?;
     shell.memories = vec![in alloc; Memory { width: 8, words: 5 }]?;
     add_writes(&mut shell)?;
@@ -453,10 +453,12 @@ fn remembers(rt: HostRuntime) -> Result<(), Fail> {
         (0, 0x11, 0x11),
         (4, 0xc2, 0x84),
         (5, 0x33, 0),
+        (TOP, 0x33, 0),
+        (ONES, 0x33, 0),
         (0, 0x11, 0x11),
         (4, 0xc2, 0x84),
     ] {
-        bench.set_row(&[Bits::new(3, at), Bits::new(8, d)])?;
+        bench.set_row(&[Bits::new(64, at), Bits::new(8, d)])?;
         assert_eq!(rt; bench.ticked(None), (TickEnd::EdgeDone, output(q)));
     }
     Ok(())

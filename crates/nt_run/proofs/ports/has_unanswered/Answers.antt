@@ -4,7 +4,7 @@ use Rattle.std.specs.Prelude.{is_some}
 use Rattle.xt_bits.specs.Word.{Word}
 use Rattle.nt_core.specs.HostLine.{HostLine}
 use Rattle.nt_core.specs.Parts.{Parts}
-use Rattle.nt_core.specs.Ports.{asks}
+use Rattle.nt_core.specs.Ports.{request_up}
 use Rattle.nt_run.specs.Acknowledged.{Acknowledged, reply_to}
 use Rattle.nt_run.proofs.Hosts.{any_at, any_more, any_none, is_open, is_down, is_met}
 use Rattle.nt_run.proofs.ports.has_unanswered.Goals as goal
@@ -12,7 +12,7 @@ use Rattle.nt_run.proofs.ports.has_unanswered.Goals.{else-is_asking-via-then-is_
 
 -- what is asked of each host
 abbrev test : Parts → List Word → Acknowledged → ℕ × HostLine → Bool
-test n vs a h = asks n vs h.0 && not (is_some (reply_to a h.1.process))
+test n vs a h = request_up n vs h.0 && not (is_some (reply_to a h.1.process))
 
 -- the host that the loop has come to, with its process
 acknowledged_at : (n : Parts) (a : Acknowledged) (i p : ℕ) (h k : HostLine) (hs : List HostLine) → hs ≡ n.hosts → h ≡ get_or hs i h → k ≡ h → k.process ≡ p → (b : Bool)

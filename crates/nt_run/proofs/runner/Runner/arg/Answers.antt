@@ -1,11 +1,9 @@
--- It has settled.
+-- There is a value of each node's width.
 use Rattle.std.proofs.Common.{◌∙◌, ap}
 use Rattle.nt_core.specs.Fitting.{value_widths}
-use Rattle.nt_run.specs.Machine.{Machine}
-use Rattle.nt_run.proofs.KeptLemmas.{kept_widths}
 use Rattle.nt_run.proofs.runner.Runner.arg.Goals as goal
 
 pub argument-requires-clause-values : goal.argument-requires-clause-values
 argument-requires-clause-values c =
     ap value_widths c.deref.ensures.value
-    ∙ kept_widths _ _ _ _ _ _ _ c.self.invariant (ap (λ (m : Machine). m.is_settled) c.self.view_is ∙ c.requires.settled)
+    ∙ c.self.invariant.values

@@ -5,13 +5,13 @@ use Rattle.nt_core.specs.Parts.{Parts}
 use Rattle.nt_core.specs.Ports.{port, outputs}
 use Rattle.nt_core.specs.Fitting.{value_widths}
 use Rattle.nt_run.specs.Machine.{Machine, settled_values}
-use Rattle.nt_run.proofs.KeptLemmas.{kept_widths, output_at}
+use Rattle.nt_run.proofs.KeptLemmas.{output_at}
 use Rattle.nt_run.proofs.runner.Runner.output.Goals as goal
 
 pub port-requires-clause-values : goal.port-requires-clause-values
 port-requires-clause-values c =
     ap value_widths c.deref.ensures.value
-    ∙ kept_widths _ _ _ _ _ _ _ c.self.invariant (ap (λ (m : Machine). m.is_settled) c.self.view_is ∙ c.requires.settled)
+    ∙ c.self.invariant.values
 
 pub returns : goal.returns
 returns c =
