@@ -1,15 +1,15 @@
 -- A function's body by its structure is what the stack runs.
-use Rattle.std.proofs.Common.{◌≡◌, ℕ, zero, suc, ◌^◌, Bool, true, false, if◌then◌else◌, List, [], ◌∷◌, Some, None, refl, sym, ◌∙◌, ap, subst}
+use Rattle.std.proofs.Common.{◌≡◌, ℕ, zero, suc, ◌^◌, Bool, true, false, if◌then◌else◌, List, [], ◌∷◌, Some, None, refl, sym, ap, subst}
 use Rattle.xt_bits.specs.Word.{Word}
 use Rattle.xt_base.specs.declared.refusals.Place.{Place}
-use Rattle.el_design.specs.Plain.{Expr, Lvalue, ToVariable, Statement, Null, Skip, Seq, Block, Assign, If, Case, Arm, For, While, Repeat, Forever, Wait, Enable, Disable, Host, Flat}
+use Rattle.el_design.specs.Plain.{Expr, ToVariable, Statement, Null, Skip, Seq, Block, Assign, If, Case, Arm, For, While, Repeat, Forever, Wait, Enable, Disable, Host, Flat}
 use Rattle.el_design.specs.Store.{Store, Write, width_of, put_all}
-use Rattle.el_design.specs.Value.{Scene, value, is_up}
+use Rattle.el_design.specs.Value.{value, is_up}
 use Rattle.el_design.specs.Assign.{writes_of, has_label, arm_chosen, count_of}
 use Rattle.el_design.specs.Function.{times, while_up, body_scene, assigned, body_store}
 use Rattle.el_design.specs.Stack as stacks
 use Rattle.el_design.specs.Stack.{Work, Do, End, settle}
-use Rattle.el_design.specs.Act.{Process, Acted, Ran, turn, act}
+use Rattle.el_design.specs.Act.{Ran, turn, act}
 use Rattle.el_design.specs.Bodies.{alone, Events, EndsWithin, Turns, Ends, BodyRuns}
 
 module _ (d : Flat) (call : ℕ → List Word → Word) where
@@ -146,6 +146,10 @@ module _ (d : Flat) (call : ℕ → List Word → Word) where
       whole c (For at v first test next body) store k end refl
       (event at (writes_of d s (ToVariable v) (value d s first)) (Do (For at v first test next body) ∷ k) (stacks.Test at v test next body ∷ k) store (settle k) end refl
       (looped at v test next body k (λ st e. goes body false st e) (2 ^ width_of d v) begin h))
+  goes (While at test body) c store h k =
+      whole c (While at test body) store k store refl
+      (event at [] (Do (While at test body) ∷ k) (settle k) store (settle k) store
+      (ap (λ x. Some (record { did = Ran; at = at; writes = []; process = alone (settle (if x then Do body ∷ Do (While at test body) ∷ k else k)) })) h) (here (settle k) store))
   goes (Repeat at count body) c store h k =
       let n = count_of d (body_scene call store) count in
       let end = body_store d call (Repeat at count body) store in
@@ -154,7 +158,6 @@ module _ (d : Flat) (call : ℕ → List Word → Word) where
   goes (Arm on labels body others) true store h k =
       labelled on labels body others k store (has_label d (body_scene call store) on labels) refl (λ e. goes body false store (h.0 e) k) (λ e. goes others true store (h.1 e) k)
   goes (Arm on labels body others) false store h k = absurd h
-  goes (While at test body) c store h k = absurd h
   goes (Forever at body) c store h k = absurd h
   goes (Wait at falling) c store h k = absurd h
   goes (Enable at t ins outs) c store h k = absurd h

@@ -1,12 +1,12 @@
 -- What a statement comes to depends on the stack below it only by the marks that are open there.
-use Rattle.std.proofs.Common.{◌≡◌, ◌⊎◌, inl, inr, ℕ, zero, suc, ◌==◌, Bool, true, false, if◌then◌else◌, List, [], ◌∷◌, Option, Some, None, is_some, zip, slice_get, refl, sym, ◌∙◌, ap, subst}
+use Rattle.std.proofs.Common.{◌≡◌, ℕ, zero, suc, ◌==◌, Bool, true, false, if◌then◌else◌, List, [], ◌∷◌, Option, Some, None, is_some, zip, slice_get, refl, ap, subst}
 use Rattle.xt_base.specs.declared.refusals.Place.{Place}
 use Rattle.xt_bits.specs.Word.{Word}
 use Rattle.xt_bits.specs.Stimulus.{Reply}
 use Rattle.el_design.specs.Plain.{Expr, Lvalue, Statement, Null, Skip, Seq, Block, Assign, If, Case, Arm, For, While, Repeat, Forever, Wait, Enable, Disable, Host, FlatTask, Flat}
 use Rattle.el_design.specs.Assign.{has_label, count_of}
-use Rattle.el_design.specs.Stack.{Work, Do, End, Return, Test, Step, Turns, Await, below_mark}
-use Rattle.el_design.specs.Alone.{Doing, Outcome, Falls, Stops, Jumps, Lost, Setting, seen, counted, writing, stepped, asking, is_tested, and_then, closed, returned, loop, turns_of, enabling, disabling, awaiting, go, enabled_at, setting}
+use Rattle.el_design.specs.Stack.{Work, Do, End, Return, Step, Turns, below_mark}
+use Rattle.el_design.specs.Alone.{Doing, Outcome, Falls, Stops, Jumps, Lost, Setting, seen, counted, stepped, asking, is_tested, and_then, closed, returned, loop, turns_of, enabling, disabling, awaiting, go, setting}
 
 -- the same marks are open
 abbrev pub SameMarks : List Work → List Work → Type 0

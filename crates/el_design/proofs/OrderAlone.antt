@@ -1,14 +1,14 @@
 -- A stack alone does what its big step says.
-use Rattle.std.proofs.Common.{◌≡◌, ℕ, zero, suc, Bool, true, false, if◌then◌else◌, ◌==◌, List, [], ◌∷◌, Option, Some, None, zip, slice_get, refl, sym, ◌∙◌, ap, subst}
+use Rattle.std.proofs.Common.{◌≡◌, ℕ, zero, suc, Bool, true, false, if◌then◌else◌, ◌==◌, List, [], ◌∷◌, Option, Some, None, zip, slice_get, refl, sym, ◌∙◌, subst}
 use Rattle.xt_base.specs.declared.refusals.Place.{Place}
 use Rattle.xt_bits.specs.Word.{Word}
 use Rattle.xt_bits.specs.Stimulus.{Reply}
 use Rattle.el_design.specs.Plain.{Expr, Lvalue, Statement, Null, Skip, Seq, Block, Assign, If, Case, Arm, For, While, Repeat, Forever, Wait, Enable, Disable, Host, FlatTask, Flat}
 use Rattle.el_design.specs.Assign.{writes_of, arm_chosen, has_label, count_of}
 use Rattle.el_design.specs.Value.{value}
-use Rattle.el_design.specs.Stack.{Work, Do, End, Return, Test, Step, Turns, Await, enter, settle, below_mark}
+use Rattle.el_design.specs.Stack.{Work, Do, End, Return, Test, Step, Turns, Await, settle, below_mark}
 use Rattle.el_design.specs.Act.{turn}
-use Rattle.el_design.specs.Alone.{Doing, Outcome, Falls, Stops, Jumps, Lost, Setting, seen, counted, writing, assigning, stepped, asking, replying, is_tested, and_then, closed, returned, loop, turns_of, enabling, disabling, awaiting, go, enabled_at, setting, go_work, go_stack, leave, is_stop, lone_step, lone, Goes, stays, takes}
+use Rattle.el_design.specs.Alone.{Doing, Outcome, Falls, Stops, Jumps, Lost, Setting, seen, counted, assigning, stepped, asking, is_tested, and_then, closed, returned, loop, turns_of, enabling, disabling, awaiting, go, setting, go_work, go_stack, leave, is_stop, lone_step, lone, Goes, stays, takes}
 use Rattle.el_design.proofs.Settling.{again}
 
 -- the events that lead from one stack, above another, to what is said of that other

@@ -6,20 +6,20 @@ use Rattle.xt_bits.specs.Word.{Word}
 use Rattle.el_design.specs.Plain.{Expr, Lvalue, Statement, Seq, Block, If, Case, Arm, For, While, Repeat, Forever, Wait, Enable, FlatTask, Flat}
 use Rattle.el_design.specs.Store.{Store}
 use Rattle.el_design.specs.Assign.{has_label, arm_chosen}
-use Rattle.el_design.specs.Stack.{Work, Do, End, Return, Test, Step, Turns}
+use Rattle.el_design.specs.Stack.{Work, Do, End, Return, Step, Turns}
 use Rattle.el_design.specs.InPlace.{Stands, itself, Meets}
 use Rattle.el_design.specs.InPlace as place
 use Rattle.el_design.specs.Turns.{fixed, goes_on, turned, IsCounted, HasTurns, IsEndlessFor, IsConstantLoop}
-use Rattle.el_design.specs.Walk.{choices, is_constant_case, MayGo, HasWalk}
+use Rattle.el_design.specs.Walk.{choices, is_constant_case, HasWalk}
 use Rattle.el_design.specs.Sizes.{size_of, exprs_size, expr_size, counting, task_size}
 use Rattle.el_design.specs.Rules.{max_turns, IsClean}
 use Rattle.el_design.specs.Sound.{IsSound, ChooseBy, IsPlainVariable}
 use Rattle.el_design.specs.Act.{copied_in, copied_out}
-use Rattle.el_design.specs.Alone.{Doing, Outcome, Falls, Stops, Jumps, Lost, Setting, seen, counted, writing, stepped, is_tested, and_then, closed, returned, loop, turns_of, enabling, go, enabled_at, setting}
+use Rattle.el_design.specs.Alone.{Doing, Outcome, Falls, Stops, Jumps, Lost, seen, counted, writing, stepped, is_tested, and_then, closed, returned, loop, turns_of, enabling, go, enabled_at, setting}
 use Rattle.el_design.proofs.OrderLists.{con_head, con_tail}
-use Rattle.el_design.proofs.OrderRule.{CountsEnough, label_way, split, stable, Opens, walked, spins_not, few_turns, no_end, tested_way, counted_turns, IsShaped, shaped_all, turn_first, turn_next, turn_test}
-use Rattle.el_design.proofs.OrderWrites.{WritesIn, left_in}
-use Rattle.el_design.proofs.OrderWalk.{Surely, sure, surely, either, Leaves, leaves_seq, leaves_first, leaves_block, leaves_named, leaves_ended, leaves_through, leaves_then, leaves_else, LeavesArms, leaves_case, leaves_enable, leaves_task, leaves_enabled, leaves_forever, leaves_while, leaves_while_turn, leaves_for, leaves_for_turn, leaves_repeat, leaves_repeat_turn}
+use Rattle.el_design.proofs.OrderRule.{CountsEnough, label_way, split, stable, spins_not, no_end, tested_way, counted_turns, IsShaped, shaped_all, turn_first, turn_next, turn_test}
+use Rattle.el_design.proofs.OrderWrites.{left_in}
+use Rattle.el_design.proofs.OrderWalk.{Surely, sure, surely, either, Leaves, leaves_seq, leaves_first, leaves_block, leaves_named, leaves_ended, leaves_through, leaves_then, leaves_else, LeavesArms, leaves_case, leaves_enable, leaves_task, leaves_enabled, leaves_forever, leaves_while_turn, leaves_for, leaves_for_turn, leaves_repeat, leaves_repeat_turn}
 use Rattle.el_design.proofs.OrderOutcome.{FreeIn, Kept, kept_store, kept_then, Fine, Sane, sane_map, sane_then, sane_closed, sane_returned, InTurn, Paused, at_wait, in_first, in_rest, in_block, in_named, in_then, in_else, in_case, in_arm, in_others, in_for, in_while, in_repeat, in_forever, in_task, Rests, at_least, turns_fit}
 use Rattle.el_design.proofs.OrderSane.{Here, here_part, here_named, Stated, Armed, Claimed, fine_part, three_sizes, some_turns, for_turns, endless_turns, repeat_turns, repeat_ends, AtTest, ForSpent, ForLeft, for_sane, step_kept, RepeatSpent, RepeatLeft, repeat_sane, while_never, while_sane, has_walk, here_task, forever_ends}
 use Rattle.el_design.proofs.OrderDepth.{sizes_at, any, started, sound_tasks, tasks_stated, under_few}
@@ -366,7 +366,7 @@ module _ (d : Flat) (p : ℕ) (clean : IsClean d) (sound : IsSound d) (times : L
       own_more = let e : 3 ≤ exprs_size ((counting d times b).calls) (first ∷ test ∷ next ∷ []) = three_sizes ((counting d times b).calls) first test next in omega arith
 
       own_once : own ≤ size b marks (For at v first test next body)
-      own_once = at_least (times marks (For at v first test next body)) own (some_turns d p clean times counts nets turns enough marks (For at v first test next body))
+      own_once = at_least (times marks (For at v first test next body)) own (some_turns d p clean times counts nets turns enough marks (For at v first test next body) (h.meets marks (For at v first test next body) itself))
 
       -- where the body isn't walked through, a run from a test has at most one turn
       for_once : (a : ℕ) → b ≤ a → (k n fuel : ℕ) (y : Doing) → IsShaped d y.store → 1 ≤ fuel → (Leaves d below body None → ⊥) → (is_tested (setting d nets turns a) test y ≡ false → k + suc y.events ≤ n) →
@@ -581,7 +581,7 @@ module _ (d : Flat) (p : ℕ) (clean : IsClean d) (sound : IsSound d) (times : L
       while_room =
           let e : 1 ≤ expr_size ((counting d times b).calls) test = Rattle.el_design.proofs.OrderSane.some_size ((counting d times b).calls) test in
           let r : 1 + expr_size ((counting d times b).calls) test + size b marks body ≤ size b marks (While at test body) =
-          at_least (times marks (While at test body)) (1 + expr_size ((counting d times b).calls) test + size b marks body) (some_turns d p clean times counts nets turns enough marks (While at test body)) in omega arith
+          at_least (times marks (While at test body)) (1 + expr_size ((counting d times b).calls) test + size b marks body) (some_turns d p clean times counts nets turns enough marks (While at test body) (h.meets marks (While at test body) itself)) in omega arith
 
       never_while : (a : ℕ) → b ≤ a → (y : Doing) → is_tested (setting d nets turns a) test y ≡ true → Leaves d below body None → ⊥
       never_while a l = while_never d p clean times counts nets turns enough (enabled_at d nets turns a) marks below at test body (size b marks body) (h.meets marks (While at test body) itself) h.opens (inner_while a l)
@@ -653,7 +653,7 @@ module _ (d : Flat) (p : ℕ) (clean : IsClean d) (sound : IsSound d) (times : L
       own_repeat = 2 + expr_size ((counting d times b).calls) count + size b marks body
 
       repeat_once_room : own_repeat ≤ size b marks (Repeat at count body)
-      repeat_once_room = at_least (times marks (Repeat at count body)) own_repeat (some_turns d p clean times counts nets turns enough marks (Repeat at count body))
+      repeat_once_room = at_least (times marks (Repeat at count body)) own_repeat (some_turns d p clean times counts nets turns enough marks (Repeat at count body) (h.meets marks (Repeat at count body) itself))
 
       own_repeat_more : size b marks body + 3 ≤ own_repeat
       own_repeat_more = let e : 1 ≤ expr_size ((counting d times b).calls) count = Rattle.el_design.proofs.OrderSane.some_size ((counting d times b).calls) count in omega arith

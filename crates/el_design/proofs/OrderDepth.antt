@@ -1,24 +1,24 @@
 -- Tasks in place: no chain of enables is longer than there are tasks.
-use Rattle.std.proofs.Common.{◌≡◌, ◌⊎◌, inl, inr, ℕ, zero, suc, ◌+◌, ◌*◌, ◌<◌, ◌≤◌, ◌&&◌, ◌==◌, Bool, true, false, if◌then◌else◌, List, [], ◌∷◌, ◌++◌, Option, Some, None, Contains, slice_get, map, length, refl, sym, ◌∙◌, ap, subst, arith, eq-eqb, T, eqb→eq}
+use Rattle.std.proofs.Common.{◌≡◌, ◌⊎◌, inl, inr, ℕ, zero, suc, ◌+◌, ◌<◌, ◌≤◌, ◌==◌, Bool, true, false, if◌then◌else◌, List, [], ◌∷◌, ◌++◌, Some, Contains, slice_get, map, length, refl, sym, ◌∙◌, ap, subst, arith, eq-eqb, T, eqb→eq}
 use Rattle.std.proofs.lemmas.List.Elements.{Contains-append_left, Contains-append_right}
 use Rattle.xt_bits.specs.Word.{Word, word}
 use Rattle.el_design.specs.Plain.{Expr, Number, Statement, FlatTask, FlatProc, Flat}
 use Rattle.el_design.specs.Stack.{Work}
-use Rattle.el_design.specs.InPlace.{Stands, Holds}
+use Rattle.el_design.specs.InPlace.{Stands}
 use Rattle.el_design.specs.Sizes.{Counting, counting, size_of, task_size}
 use Rattle.el_design.specs.Rules.{max_turns, IsClean}
-use Rattle.el_design.specs.Sound.{IsSound, IsStatement, ChooseBy, bodies_of}
-use Rattle.el_design.specs.Alone.{Doing, Outcome, Setting, go, enabled_at, setting}
+use Rattle.el_design.specs.Sound.{IsSound, IsStatement, ChooseBy}
+use Rattle.el_design.specs.Alone.{Doing, go, enabled_at, setting}
 use Rattle.el_design.proofs.OrderRule.{CountsEnough, IsShaped}
 use Rattle.el_design.proofs.OrderSane.{In, IsUnder, Here, Stated, Claimed, TasksStated, sane}
 
 -- ---- numbers that are all different and below n are at most n
 
-abbrev Apart : List ℕ → Type 0
+abbrev pub Apart : List ℕ → Type 0
 Apart [] = Unit {0}
 Apart (x ∷ xs) = (In x xs → ⊥) × Apart xs
 
-abbrev Below : ℕ → List ℕ → Type 0
+abbrev pub Below : ℕ → List ℕ → Type 0
 Below n [] = Unit {0}
 Below n (x ∷ xs) = (x < n) × Below n xs
 
@@ -75,7 +75,7 @@ one_without n (x ∷ xs) a = go (x == n) refl (one_without n xs a.1)
     go true e h = let k : length xs ≤ length (without n xs) = same_without n xs (subst (λ m. In m xs → ⊥) (is_it x n e) a.0) in omega arith
     go false e h = omega arith
 
-few : (n : ℕ) (xs : List ℕ) → Apart xs → Below n xs → length xs ≤ n
+pub few : (n : ℕ) (xs : List ℕ) → Apart xs → Below n xs → length xs ≤ n
 few zero [] a b = omega arith
 few zero (x ∷ xs) a b = absurd (let h : x < 0 = b.0 in omega arith)
 few (suc n) xs a b = let h : length (without n xs) ≤ n = few n (without n xs) (apart_without n xs a) (below_without n xs b) in let k : length xs ≤ suc (length (without n xs)) = one_without n xs a in omega arith

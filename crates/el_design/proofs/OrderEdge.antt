@@ -1,5 +1,5 @@
 -- A whole edge in the order of the first place: the processes, and then their updates, after which no event of a process is left.
-use Rattle.std.proofs.Common.{◌≡◌, ◌≢◌, ◌⊎◌, inl, inr, ℕ, zero, suc, ◌+◌, ◌<◌, ◌≤◌, ◌==◌, not, ◌&&◌, Bool, true, false, if◌then◌else◌, List, [], ◌∷◌, ◌++◌, All, Option, Some, None, is_some, slice_get, get_or, set, map, fold, length, refl, sym, ◌∙◌, ap, ap₂, subst, arith, append_assoc, append-nil}
+use Rattle.std.proofs.Common.{◌≡◌, ◌⊎◌, inl, inr, ℕ, zero, suc, ◌+◌, ◌<◌, ◌≤◌, not, ◌&&◌, Bool, true, false, if◌then◌else◌, List, [], ◌∷◌, ◌++◌, All, Option, Some, None, is_some, slice_get, get_or, set, map, fold, length, refl, sym, ◌∙◌, ap, ap₂, subst, arith, append_assoc}
 use Rattle.std.specs.List.{list_any}
 use Rattle.std.proofs.lemmas.Bool.{cases_eq}
 use Rattle.std.proofs.lemmas.List.Elements.{All-head}
@@ -14,18 +14,17 @@ use Rattle.el_design.specs.Touches.{WritesBlocking, WritesNonblocking, by_blocki
 use Rattle.el_design.specs.Sizes.{u_of}
 use Rattle.el_design.specs.Rules.{max_turns, IsClean, two_write, two_writers, both_ways, both_kinds}
 use Rattle.el_design.specs.Sound.{IsSound}
-use Rattle.el_design.specs.Alone.{setting, is_stop, round, update_all, without_updates, after_round, edge_end}
+use Rattle.el_design.specs.Alone.{setting, is_stop, round, update_all, without_updates, edge_end}
 use Rattle.el_design.proofs.Ready.{acts}
 use Rattle.el_design.proofs.OrderRule.{CountsEnough, IsShaped, shaped_all}
 use Rattle.el_design.proofs.OrderWrites.{WritesIn}
-use Rattle.el_design.proofs.OrderSame.{length_all}
 use Rattle.el_design.proofs.OrderSwap.{kept_in}
 use Rattle.el_design.proofs.OrderStop.{deep}
 use Rattle.el_design.proofs.OrderDiamond.{count, Path, Ended}
-use Rattle.el_design.proofs.OrderCommute.{is_calm, step, Fine, ProcessShared, step_fine}
+use Rattle.el_design.proofs.OrderCommute.{is_calm, step, Fine, step_fine}
 use Rattle.el_design.proofs.OrderPlaces.{got_middle, got_below, any_set}
 use Rattle.el_design.proofs.OrderPath.{path_on, path_fine, count_both, is_run}
-use Rattle.el_design.proofs.OrderRound.{Done, Dones, Todos, done_moved, dones_moved, set_middle, with_all, Rounded, rounds}
+use Rattle.el_design.proofs.OrderRound.{Dones, Todos, dones_moved, set_middle, Rounded, rounds}
 
 -- ---- where all have stopped
 

@@ -2,21 +2,20 @@
 use Rattle.std.proofs.Common.{◌≡◌, ◌≢◌, ◌⊎◌, inl, inr, ℕ, zero, suc, ◌+◌, ◌<◌, ◌≤◌, max, ◌==◌, Bool, true, false, if◌then◌else◌, List, [], ◌∷◌, ◌++◌, Option, Some, None, slice_get, map, zip, length, refl, sym, ◌∙◌, ap, ap₂, subst, arith, add-zero}
 use Rattle.std.specs.List.{list_any}
 use Rattle.xt_base.specs.declared.refusals.Place.{Place}
-use Rattle.xt_bits.specs.Word.{Word, word}
+use Rattle.xt_bits.specs.Word.{Word}
 use Rattle.xt_bits.specs.Stimulus.{Reply, Stimulus}
-use Rattle.xt_bits.specs.Trace.{Trace}
 use Rattle.el_design.specs.declared.designs.Var.{Var}
-use Rattle.el_design.specs.Plain.{Expr, Statement, Null, Skip, Seq, Block, Assign, If, Case, Arm, For, While, Repeat, Forever, Wait, Enable, Disable, Host, FlatProc, Flat}
+use Rattle.el_design.specs.Plain.{Statement, Null, Skip, Seq, Block, Assign, If, Case, Arm, For, While, Repeat, Forever, Wait, Enable, Disable, Host, FlatProc, Flat}
 use Rattle.el_design.specs.Store.{Store, start_store, start_word}
 use Rattle.el_design.specs.Stack.{Work, Do, End, Return, Test, Step, Turns, Await, settle, start_stack, is_waiting, wake}
 use Rattle.el_design.specs.Act.{Process}
-use Rattle.el_design.specs.Queue.{Config, is_stuck_at, is_stuck, Event, Run, Follow, Update, ready}
-use Rattle.el_design.specs.Run.{IsSettled, started, Starts, woken, Continues, Takes, Goes, RunsBy}
+use Rattle.el_design.specs.Queue.{Config, is_stuck_at, is_stuck, Event, Run, Follow, Update}
+use Rattle.el_design.specs.Run.{IsSettled, started, Starts, woken, Continues}
 use Rattle.el_design.specs.Checked.{IsChecked}
-use Rattle.el_design.specs.Sizes.{CountsTurns, u_of}
-use Rattle.el_design.specs.Rules.{max_turns}
+use Rattle.el_design.specs.Sizes.{u_of}
+use Rattle.el_design.specs.Rules.{max_turns, most_turns}
 use Rattle.el_design.specs.Alone.{setting, is_stop, edge_end}
-use Rattle.el_design.proofs.OrderRule.{CountsEnough, counts_enough, most_turns, most_enough, IsShaped}
+use Rattle.el_design.proofs.OrderRule.{CountsEnough, most_enough, IsShaped}
 use Rattle.el_design.proofs.OrderOutcome.{Paused}
 use Rattle.el_design.proofs.OrderStop.{root, deep}
 use Rattle.el_design.proofs.OrderDiamond.{count, Path, Ended}
@@ -24,17 +23,16 @@ use Rattle.el_design.proofs.OrderFollows.{room, ends, at_most_so_many, one_core}
 use Rattle.el_design.proofs.OrderCommute.{step, Fine, diamond}
 use Rattle.el_design.proofs.OrderDigits.{weight, digits}
 use Rattle.el_design.proofs.OrderCore.{taking, core, is_agent, Good}
-use Rattle.el_design.proofs.OrderRest.{follows, ready_ended}
+use Rattle.el_design.proofs.OrderRest.{follows}
 use Rattle.el_design.proofs.OrderBegins.{starts_fine, continues_fine, begins_good, good_fine}
 use Rattle.el_design.proofs.OrderPath.{is_run}
-use Rattle.el_design.proofs.OrderRound.{Done, Idle, Todo, Dones, Todos}
+use Rattle.el_design.proofs.OrderRound.{Done, Todo, Dones, Todos}
 use Rattle.el_design.proofs.OrderEdge.{Edge, edge}
-use Rattle.el_design.proofs.OrderTrace.{takes_path, goes_ready}
 
 -- ---- how edges begin
 
 -- work that a process has to do, where it waits
-abbrev work_of : List Work → List Work
+abbrev pub work_of : List Work → List Work
 work_of (Do (Wait at falling) ∷ k) = k
 work_of k = k
 
@@ -83,7 +81,7 @@ start_shaped d = go d.vars
     go [] = refl
     go (v ∷ vs) = ap₂ (λ a b. a ∷ b) (Rattle.std.proofs.lemmas.List.length-replicate _ _) (go vs)
 
-abbrev start_work : FlatProc × List Reply → List Work × Process
+abbrev pub start_work : FlatProc × List Reply → List Work × Process
 start_work y = (Do (root y.0) ∷ [], started y)
 
 start_is : (p : FlatProc) → start_stack p ≡ settle (Do (root p) ∷ [])
@@ -121,7 +119,7 @@ pub record Rested (d : Flat) (c : Config) : Type 0 where
   pub shaped : IsShaped d c.store
   pub dones : Dones d 0 c.store c.procs
 
-abbrev next_work : Process → List Work × Process
+abbrev pub next_work : Process → List Work × Process
 next_work p = (work_of p.stack, woken p)
 
 next_todo : (d : Flat) (i : ℕ) (store : Store) (p : Process) → Done d i store p → is_stuck p ≡ false → Todo d i store (next_work p)
@@ -185,10 +183,10 @@ module _ (d : Flat) (order : List ℕ) (checked : IsChecked d order) where
   run_agent q (Update i) h = refl
 
   -- and so many of a process
-  pub edge_few : (times : List ℕ → Statement → ℕ) → CountsTurns d times → (c : Config) → Begins d c → (q : ℕ) (process : FlatProc) → slice_get d.procs q ≡ Some process →
+  pub edge_few : (times : List ℕ → Statement → ℕ) → CountsEnough d times → (c : Config) → Begins d c → (q : ℕ) (process : FlatProc) → slice_get d.procs q ≡ Some process →
       (es : List Event) (t : Config) → Path (taking d) es c t → count (is_run q) es ≤ u_of d times process
   edge_few times counts c b q process here es t run =
-      let e = the_edge times (counts_enough d times counts) c b in
+      let e = the_edge times counts c b in
       let a : count (is_run q) es ≤ count (is_run q) e.events =
       at_most_so_many Config Config Event (taking d) (step d) (core c.nets) is_agent (Fine d) (Good d c.row c.store c.nets) (digits d order) (weight order)
       (diamond d checked.sound checked.clean) (follows d order checked c.row c.store c.nets b.settled) c t (edge_end (setting d c.nets (suc max_turns) (deep d)) c b.work) e.events es (is_run q) (run_agent q)

@@ -1,5 +1,5 @@
 -- Runs of agents and followers: where agents' steps change places and followers only follow, every run ends, and all end alike.
-use Rattle.std.proofs.Common.{◌≡◌, ◌⊎◌, inl, inr, ℕ, zero, suc, ◌+◌, ◌<◌, ◌≤◌, Bool, true, false, not, ◌&&◌, if◌then◌else◌, List, [], ◌∷◌, length, filter, Option, Some, None, refl, sym, ◌∙◌, ap, subst, subst₂, arith}
+use Rattle.std.proofs.Common.{◌≡◌, ◌⊎◌, inl, inr, ℕ, zero, suc, ◌+◌, ◌<◌, ◌≤◌, Bool, true, false, if◌then◌else◌, List, [], ◌∷◌, length, filter, Option, Some, refl, sym, ◌∙◌, ap, subst, subst₂, arith}
 use Rattle.el_design.proofs.OrderDiamond.{count, Path, Ended, Diamond, at_most, one_end}
 
 -- Of states S in which events may be taken, the core is what agents change; a follower's event leaves it, and lowers a number.

@@ -1,10 +1,9 @@
 -- What is evaluated depends on the variables and nets that it names alone.
-use Rattle.std.proofs.Common.{◌≡◌, ◌⊎◌, inl, inr, ℕ, zero, suc, ◌-◌, Bool, true, false, ◌&&◌, if◌then◌else◌, List, [], ◌∷◌, ◌++◌, get_or, Contains, Option, Some, None, ℤ, pos, ◌-ℤ◌, refl, sym, ◌∙◌, ap, ap₂, subst, arith}
+use Rattle.std.proofs.Common.{◌≡◌, ℕ, ◌-◌, true, ◌&&◌, if◌then◌else◌, List, [], ◌∷◌, ◌++◌, get_or, Contains, pos, ◌-ℤ◌, refl, ◌∙◌, ap, ap₂}
 use Rattle.std.proofs.lemmas.List.Elements.{Contains-append_left, Contains-append_right}
-use Rattle.std.specs.List.{list_all}
 use Rattle.xt_bits.specs.Word.{Word, word, integer_of}
 use Rattle.xt_bits.specs.Operators.{select_of, extend_of}
-use Rattle.el_design.specs.Plain.{Shape, Expr, Number, NetValue, Variable, MemoryWord, Select, Unary, Binary, Choice, Concat, Copies, Sign, Resize, Call, Exprs, NoExpr, More, Range, Bit, Part, Up, Down, Flat}
+use Rattle.el_design.specs.Plain.{Expr, Number, NetValue, Variable, MemoryWord, Select, Unary, Binary, Choice, Concat, Copies, Sign, Resize, Call, Exprs, NoExpr, More, Range, Bit, Part, Up, Down, Flat}
 use Rattle.el_design.specs.Store.{place_of, stored}
 use Rattle.el_design.specs.Value.{Scene, value, values, lowest, lsb_of, is_signed, is_up, unary_value, binary_value, joined, copies}
 use Rattle.el_design.specs.Names.{nodes_of, nodes_of_all, range_nodes, variable_named, variables_in, net_named, nets_in, is_fixed, is_constant}
@@ -59,7 +58,7 @@ module _ (A N : ℕ → Type 0) (d : Flat) (s t : Scene) (g : Agree A N s t) whe
     value_same (Copies x n e) h = ap (copies (n - 1)) (value_same e (under _ _ h))
     value_same (Sign x e) h = value_same e (under _ _ h)
     value_same (Resize x e) h = ap (λ w. extend_of w x.width x.signed) (value_same e (under _ _ h))
-    value_same (Call x f es) h = ap₂ (λ call ws. call f ws) g.calls (values_same es (under _ _ h))
+    value_same (Call x f es) h = ap₂ (λ call ws. word x.width (call f ws).value) g.calls (values_same es (under _ _ h))
 
     pub values_same : (es : Exprs) → NamesAll A N (nodes_of_all es) → values d s es ≡ values d t es
     values_same NoExpr h = refl

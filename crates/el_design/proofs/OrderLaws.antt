@@ -1,14 +1,16 @@
 -- The laws of every order.
-use Rattle.std.proofs.Common.{◌≡◌, ◌⊎◌, inl, inr, ℕ, zero, suc, ◌≤◌, ◌==◌, Bool, true, false, if◌then◌else◌, List, [], ◌∷◌, length, Some, slice_get, refl, sym, ◌∙◌, ap, subst, arith}
+use Rattle.std.proofs.Common.{◌≡◌, inl, inr, ℕ, suc, ◌≤◌, ◌==◌, Bool, true, false, if◌then◌else◌, List, [], ◌∷◌, length, refl, ap, subst}
 use Rattle.std.specs.List.{list_any}
 use Rattle.xt_bits.specs.Word.{Word}
 use Rattle.xt_bits.specs.Stimulus.{Stimulus}
-use Rattle.el_design.specs.Plain.{Statement, FlatProc, Flat}
-use Rattle.el_design.specs.Queue.{Config, is_stuck, Event, Run, Follow, Update, ready, IsStarved, IsAtRest}
-use Rattle.el_design.specs.Run.{Takes, Any, Runs}
+use Rattle.el_design.specs.Plain.{Statement, Flat}
+use Rattle.el_design.specs.Rules.{most_turns}
+use Rattle.el_design.specs.Queue.{Config, is_stuck, Event, Run, Follow, Update, ready}
+use Rattle.el_design.specs.Run.{Takes, Any}
 use Rattle.el_design.specs.Checked.{IsChecked}
-use Rattle.el_design.specs.Laws.{EdgeBegins, first_edge, next_edge, IsOver, EveryEdgeEnds, is_event_of, events_of, AtMostUEvents, EveryOrder}
-use Rattle.el_design.proofs.OrderDiamond.{count, Path, Ended}
+use Rattle.el_design.specs.Laws.{EdgeBegins, first_edge, next_edge, IsOver, EveryEdgeEnds, events_of, HasAtMostU, AtMostUEvents, AtMostMaxEvents, EveryOrder}
+use Rattle.el_design.proofs.OrderRule.{CountsEnough, counts_enough, most_enough}
+use Rattle.el_design.proofs.OrderDiamond.{count, Path}
 use Rattle.el_design.proofs.OrderFollows.{Finished, finishes}
 use Rattle.el_design.proofs.OrderCommute.{step, Fine, diamond}
 use Rattle.el_design.proofs.OrderDigits.{weight, digits}
@@ -20,7 +22,7 @@ use Rattle.el_design.proofs.OrderTrace.{takes_path}
 use Rattle.el_design.proofs.OrderEnds.{Begins, Rested, starts_begins, continues_begins, edge_bound, edge_few, edge_rest}
 
 -- events that lead from a state are events that any chooser may pass
-path_takes : (d : Flat) (k : ℕ) (c end : Config) (es : List Event) → Path (taking d) es c end → Takes d Any k c es end
+pub path_takes : (d : Flat) (k : ℕ) (c end : Config) (es : List Event) → Path (taking d) es c end → Takes d Any k c es end
 path_takes d k c end [] p = p
 path_takes d k c end (e ∷ es) p = (tt, (p.0, p.1, path_takes d (suc k) p.0 end es p.2))
 
@@ -58,10 +60,16 @@ counted p (Run i ∷ es) = ap (λ n. if i == p then suc n else n) (counted p es)
 counted p (Follow n ∷ es) = counted p es
 counted p (Update i ∷ es) = counted p es
 
-pub at_most_u_events : (d : Flat) (order : List ℕ) → IsChecked d order → AtMostUEvents d
-at_most_u_events d order checked times counts x rows begin end es e t p process here =
+at_most : (d : Flat) (order : List ℕ) → IsChecked d order → (times : List ℕ → Statement → ℕ) → CountsEnough d times → HasAtMostU d times
+at_most d order checked times counts x rows begin end es e t p process here =
     subst (λ n. n ≤ Rattle.el_design.specs.Sizes.u_of d times process) (counted p es)
     (edge_few d order checked times counts begin (begins d order checked x rows begin e) p process here es end (takes_path d Any 0 begin end es t))
+
+pub at_most_u_events : (d : Flat) (order : List ℕ) → IsChecked d order → AtMostUEvents d
+at_most_u_events d order checked times counts = at_most d order checked times (counts_enough d times counts)
+
+pub at_most_max_events : (d : Flat) (order : List ℕ) → IsChecked d order → AtMostMaxEvents d
+at_most_max_events d order checked = at_most d order checked most_turns (most_enough d checked.clean)
 
 pub every_order : (d : Flat) (order : List ℕ) → IsChecked d order → EveryOrder d
 every_order d order checked = trace.every_order d order checked Any Any

@@ -1,10 +1,9 @@
 -- What is said of an outcome, put together by the structure of statements; and where a stack waits inside a statement.
 use Rattle.std.proofs.Common.{◌≡◌, ◌⊎◌, inl, inr, ℕ, zero, suc, ◌+◌, ◌*◌, ◌<◌, ◌≤◌, ◌==◌, Bool, true, false, if◌then◌else◌, List, [], ◌∷◌, Option, Some, None, Contains, slice_get, get_or, zip, map, length, refl, sym, ◌∙◌, ap, subst, arith, mul-le-mul, mul-suc, suc-mul, mul-add, le_refl}
 use Rattle.xt_base.specs.declared.refusals.Place.{Place}
-use Rattle.xt_bits.specs.Word.{Word}
-use Rattle.el_design.specs.Plain.{Expr, Lvalue, Statement, Null, Skip, Seq, Block, Assign, If, Case, Arm, For, While, Repeat, Forever, Wait, Enable, Disable, Host, FlatTask, Flat}
+use Rattle.el_design.specs.Plain.{Expr, Lvalue, Statement, Seq, Block, If, Case, Arm, For, While, Repeat, Forever, Wait, Enable, FlatTask, Flat}
 use Rattle.el_design.specs.Store.{Store, Write, put_all}
-use Rattle.el_design.specs.Stack.{Work, Do, End, Return, Test, Step, Turns}
+use Rattle.el_design.specs.Stack.{Work, Do, End, Return, Step, Turns}
 use Rattle.el_design.specs.InPlace.{Stands}
 use Rattle.el_design.specs.Turns.{stored_by, turned, goes_on, IsCounted, HasTurns}
 use Rattle.el_design.specs.Alone.{Doing, Outcome, Falls, Stops, Jumps, Lost, and_then, closed, returned}

@@ -1,16 +1,16 @@
 -- A process's run alone is a schedule of its events among all.
-use Rattle.std.proofs.Common.{◌≡◌, ◌⊎◌, inl, inr, ℕ, zero, suc, ◌+◌, ◌<◌, ◌≤◌, ◌==◌, Bool, true, false, if◌then◌else◌, List, [], ◌∷◌, ◌++◌, Option, Some, None, slice_get, option_map, set, map, fold, length, refl, sym, ◌∙◌, ap, ap₂, subst, arith, set-set}
+use Rattle.std.proofs.Common.{◌≡◌, ℕ, zero, suc, ◌+◌, ◌<◌, ◌==◌, Bool, true, false, if◌then◌else◌, List, [], ◌∷◌, ◌++◌, Option, Some, None, slice_get, option_map, set, length, refl, sym, ◌∙◌, ap, ap₂, subst, arith, set-set}
 use Rattle.std.proofs.lemmas.Option.{slice_get_within}
 use Rattle.xt_bits.specs.Word.{Word}
 use Rattle.el_design.specs.Plain.{Flat}
-use Rattle.el_design.specs.Store.{Store, Write, put_all}
+use Rattle.el_design.specs.Store.{put_all}
 use Rattle.el_design.specs.Stack.{Work}
-use Rattle.el_design.specs.Act.{Process, Acted, act}
-use Rattle.el_design.specs.Queue.{Config, scene, scene_of, Event, Run, Follow, Update, with_process, take_run}
+use Rattle.el_design.specs.Act.{Acted, act}
+use Rattle.el_design.specs.Queue.{Config, scene_of, Event, Run, Follow, Update, with_process, take_run}
 use Rattle.el_design.specs.Alone.{Doing, Lone, lone_step, process_of, lone, Goes, stays, takes}
 use Rattle.el_design.proofs.OrderDiamond.{count, Path}
 use Rattle.el_design.proofs.OrderCommute.{step, Fine, step_fine}
-use Rattle.el_design.proofs.OrderPlaces.{got_one, set_got}
+use Rattle.el_design.proofs.OrderPlaces.{set_got}
 use Rattle.el_design.specs.Sound.{IsSound}
 
 pub path_on : (d : Flat) (es fs : List Event) (a b c : Config) → Path (step d) es a b → Path (step d) fs b c → Path (step d) (es ++ fs) a c

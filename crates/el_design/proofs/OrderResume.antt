@@ -1,14 +1,12 @@
 -- A stack that waited, past its wait: what the statement comes to in which it stands.
-use Rattle.std.proofs.Common.{◌≡◌, ◌⊎◌, inl, inr, ℕ, zero, suc, ◌+◌, ◌*◌, ◌<◌, ◌≤◌, ◌==◌, Bool, true, false, if◌then◌else◌, List, [], ◌∷◌, Option, Some, None, zip, slice_get, refl, sym, ◌∙◌, ap, subst}
+use Rattle.std.proofs.Common.{◌≡◌, ℕ, ◌==◌, Bool, true, false, if◌then◌else◌, List, ◌∷◌, zip, refl, ◌∙◌}
 use Rattle.xt_base.specs.declared.refusals.Place.{Place}
-use Rattle.xt_bits.specs.Word.{Word}
-use Rattle.el_design.specs.Plain.{Expr, Lvalue, Statement, Forever, While, FlatTask, Flat}
+use Rattle.el_design.specs.Plain.{Lvalue, Statement, Forever, While}
 use Rattle.el_design.specs.Store.{Store}
-use Rattle.el_design.specs.Stack.{Work, Do, End, Return, Test, Step, Turns, Await, settle, below_mark}
+use Rattle.el_design.specs.Stack.{Work, Do, End, Return, Test, Step, Turns, settle}
 use Rattle.el_design.specs.Act.{turn, copied_out}
-use Rattle.el_design.specs.Alone.{Doing, Outcome, Falls, Stops, Jumps, Lost, Setting, seen, counted, writing, stepped, is_tested, and_then, closed, returned, loop, turns_of, go, go_work, go_stack, leave, Goes, stays, takes}
-use Rattle.el_design.proofs.Settling.{again}
-use Rattle.el_design.proofs.OrderAlone.{Reaches, onward, ahead, one, then_reaches, closed_reaches, returned_reaches, step_reaches, for_reaches, while_reaches, turns_reach, Enabled, runs}
+use Rattle.el_design.specs.Alone.{Doing, Outcome, Falls, Stops, Jumps, Lost, Setting, seen, counted, writing, stepped, is_tested, and_then, closed, returned, loop, turns_of, go, go_work, go_stack, leave, stays}
+use Rattle.el_design.proofs.OrderAlone.{Reaches, ahead, one, then_reaches, closed_reaches, returned_reaches, step_reaches, for_reaches, while_reaches, turns_reach, Enabled, runs}
 use Rattle.el_design.proofs.OrderOutcome.{Paused, at_wait, in_first, in_rest, in_block, in_named, in_then, in_else, in_case, in_arm, in_others, in_for, in_while, in_repeat, in_forever, in_task}
 
 -- past the wait, what the statement comes to

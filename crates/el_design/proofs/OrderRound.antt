@@ -3,21 +3,20 @@ use Rattle.std.proofs.Common.{◌≡◌, ◌≢◌, ◌⊎◌, inl, inr, ℕ, ze
 use Rattle.std.proofs.lemmas.List.{get_or_past}
 use Rattle.xt_base.specs.declared.refusals.Place.{Place}
 use Rattle.xt_bits.specs.Word.{Word}
-use Rattle.xt_bits.specs.Stimulus.{Reply}
 use Rattle.el_design.specs.Plain.{Expr, Statement, Null, Skip, Seq, Block, Assign, If, Case, Arm, For, While, Repeat, Forever, Wait, Enable, Disable, Host, FlatProc, Flat}
-use Rattle.el_design.specs.Store.{Store, Write, put_all}
-use Rattle.el_design.specs.Names.{target_variables, own_targets}
+use Rattle.el_design.specs.Store.{Store}
+use Rattle.el_design.specs.Names.{target_variables}
 use Rattle.el_design.specs.Stack.{Work, Do, End, Return, Test, Step, Turns, Await, settle, is_waiting}
 use Rattle.el_design.specs.Act.{Process}
-use Rattle.el_design.specs.Queue.{Config, is_stuck_at, Event, Run}
+use Rattle.el_design.specs.Queue.{Config, is_stuck_at, Event}
 use Rattle.el_design.specs.InPlace.{Stands, itself, Meets}
 use Rattle.el_design.specs.InPlace as place
 use Rattle.el_design.specs.Turns.{stored_by}
-use Rattle.el_design.specs.Touches.{WritesBlocking, writes_blocking, WritesNonblocking, writes_nonblocking, Writes, by_blocking, by_nonblocking}
+use Rattle.el_design.specs.Touches.{WritesBlocking, writes_blocking, writes_nonblocking, Writes, by_blocking, by_nonblocking}
 use Rattle.el_design.specs.Sizes.{u_of}
 use Rattle.el_design.specs.Rules.{max_turns, IsClean, two_write, two_writers}
 use Rattle.el_design.specs.Sound.{IsSound}
-use Rattle.el_design.specs.Alone.{Doing, Outcome, Falls, Stops, Jumps, Lost, Setting, go_stack, setting, is_stop, process_of, Goes, stays, doing, alone_end, round}
+use Rattle.el_design.specs.Alone.{Doing, Falls, Stops, Jumps, Lost, Setting, go_stack, setting, is_stop, process_of, Goes, stays, doing, alone_end, round}
 use Rattle.el_design.proofs.OrderLists.{con_nil, con_head}
 use Rattle.el_design.proofs.OrderRule.{CountsEnough, split, IsShaped}
 use Rattle.el_design.proofs.OrderOutcome.{FreeIn, Kept, kept_store, Paused, at_wait, in_first, in_rest, in_block, in_named, in_then, in_else, in_case, in_arm, in_others, in_for, in_while, in_repeat, in_forever, in_task}

@@ -1,14 +1,13 @@
 -- What the rules say of loops, and how a counted loop's variable goes from turn to turn.
-use Rattle.std.proofs.Common.{◌≡◌, ◌≢◌, ◌⊎◌, inl, inr, ℕ, zero, suc, ◌+◌, ◌-◌, ◌<◌, ◌≤◌, max, ◌&&◌, ◌||◌, ◌==◌, Bool, true, false, if◌then◌else◌, List, [], ◌∷◌, ◌++◌, Option, Some, None, Contains, slice_get, get_or, set, map, length, fold, option_map, unwrap_or, pos, refl, sym, ◌∙◌, ap, ap₂, subst, arith, length-set, get_or-set_same, eqb→eq, T}
+use Rattle.std.proofs.Common.{◌≡◌, ◌⊎◌, inl, inr, ℕ, zero, suc, ◌<◌, ◌≤◌, max, ◌&&◌, ◌||◌, Bool, true, false, List, [], ◌∷◌, ◌++◌, Some, None, Contains, slice_get, get_or, set, map, length, option_map, pos, refl, sym, ◌∙◌, ap, ap₂, subst, arith, length-set, get_or-set_same, eqb→eq, T}
 use Rattle.std.proofs.Math.Seq.{map-set_same}
-use Rattle.std.proofs.lemmas.Option.{slice_get-map, get_or_from_slice_get}
-use Rattle.xt_base.specs.declared.refusals.Place.{Place}
+use Rattle.std.proofs.lemmas.Option.{slice_get-map}
 use Rattle.xt_bits.specs.Word.{Word, word}
 use Rattle.xt_bits.specs.Operators.{select_of, eq_of}
 use Rattle.el_design.specs.declared.designs.Var.{Var}
 use Rattle.el_design.specs.declared.expressions.BinOp.{BinOp}
-use Rattle.el_design.specs.Plain.{Shape, Expr, Number, NetValue, Variable, MemoryWord, Select, Unary, Binary, Choice, Concat, Copies, Sign, Resize, Call, Lvalue, ToVariable, Statement, Arm, For, While, Repeat, Forever, FlatProc, Flat}
-use Rattle.el_design.specs.Store.{Store, Write, Spot, Whole, width_of, empty_store, put_write, put_all, spot_variable, spot_place, written}
+use Rattle.el_design.specs.Plain.{Shape, Expr, Number, NetValue, Variable, MemoryWord, Select, Unary, Binary, Choice, Concat, Copies, Sign, Resize, Call, ToVariable, Statement, Arm, FlatProc, Flat}
+use Rattle.el_design.specs.Store.{Store, Write, width_of, empty_store, put_write, put_all, spot_variable}
 use Rattle.el_design.specs.Value.{Scene, value, is_up}
 use Rattle.el_design.specs.Function.{call_of}
 use Rattle.std.specs.List.{list_all}
@@ -16,16 +15,16 @@ use Rattle.std.proofs.lemmas.List.Folds.{list_all-append}
 use Rattle.el_design.specs.Assign.{writes_of, has_label, count_of}
 use Rattle.el_design.specs.Names.{nodes_of, is_constant, is_fixed, labels_in}
 use Rattle.el_design.specs.Stack.{Work, below_mark}
-use Rattle.el_design.specs.InPlace.{Meets}
-use Rattle.el_design.specs.Turns.{fixed, holds, is_variable, is_relation, is_advance, is_test_of, is_step_of, turned, goes_on, IsCounted, HasTurns, of_repeat, of_while, of_for, IsEndlessFor, endless_for, IsConstantLoop, body_of}
-use Rattle.el_design.specs.Walk.{MayGo, Walks, HasWalk, IsUnrolled, is_constant_case}
+use Rattle.el_design.specs.InPlace.{Meets, LoopAt, loop_of_process}
+use Rattle.el_design.specs.Turns.{fixed, is_variable, is_relation, is_advance, is_test_of, is_step_of, turned, goes_on, HasTurns, IsEndlessFor, IsConstantLoop, body_of}
+use Rattle.el_design.specs.Walk.{MayGo, HasWalk, IsUnrolled, is_constant_case}
 use Rattle.el_design.specs.Sizes.{CountsTurns}
-use Rattle.el_design.specs.Rules.{max_turns, loop_of_process, loop_spins, always_spins, too_many, without_end, spins, turns, IsClean}
+use Rattle.el_design.specs.Rules.{max_turns, most_turns, loop_spins, always_spins, too_many, without_end, spins, turns, IsClean}
 use Rattle.el_design.specs.Sound.{IsPlainVariable}
 use Rattle.el_design.specs.Alone.{Doing, Setting, seen, stepped, is_tested}
-use Rattle.el_design.proofs.OrderLists.{con_head, con_nil, con_all, con_cases}
+use Rattle.el_design.proofs.OrderLists.{con_nil, con_all, con_cases}
 use Rattle.el_design.proofs.OrderFoot.{Names, NamesAll, Agree, value_same, constant_same}
-use Rattle.el_design.proofs.OrderWalk.{Surely, Leaves, Agrees}
+use Rattle.el_design.proofs.OrderWalk.{Surely, Leaves}
 
 -- ---- numbers
 
@@ -225,7 +224,7 @@ pub takes_value : (d : Flat) (s : Scene) (store : Store) (v : ℕ) (x : Word) �
     get_or (put_all store (writes_of d s (ToVariable v) x)) v [] ≡ select_of x (pos 0) (width_of d v) ∷ []
 takes_value d s store v x o = get_or-set_same store v _ [] o.there ∙ set_only (get_or store v []) _ o.single
 
-empty_shaped : (d : Flat) → IsShaped d (empty_store d)
+pub empty_shaped : (d : Flat) → IsShaped d (empty_store d)
 empty_shaped d = go d.vars
   where
     go : (vs : List Var) → map length (map (λ v. Rattle.std.specs.Prelude.replicate (max 1 v.words) (word v.width 0)) vs) ≡ map (λ x. max 1 x.words) vs
@@ -284,27 +283,23 @@ label_way d s calls on by labels body others way e f k =
 
 -- ---- how often loops count
 
--- each loop counts at least once, and one that is unrolled at a place that a process meets, once more than it has turns
+-- at a place that a process meets each loop counts at least once, and one that is unrolled there, once more than it has turns
 pub record CountsEnough (d : Flat) (times : List ℕ → Statement → ℕ) : Type 0 where
-  pub once : (marks : List ℕ) (s : Statement) → 1 ≤ times marks s
+  pub once : {p : ℕ} (marks : List ℕ) (s : Statement) → Meets d p marks s → 1 ≤ times marks s
   pub unrolled : {p : ℕ} (marks : List ℕ) (s : Statement) (n : ℕ) → Meets d p marks s → IsUnrolled d marks s n → suc n ≤ times marks s
 
 pub counts_enough : (d : Flat) (times : List ℕ → Statement → ℕ) → CountsTurns d times → CountsEnough d times
 counts_enough d times c = record {
-  once = λ marks s. stable 1 (times marks s) (λ n. n (some marks s n));
-  unrolled = λ marks s n m u. let e : times marks s ≡ suc n = c.unrolled marks s n u in omega arith;
+  once = λ marks s m. stable 1 (times marks s) (λ n. n (some marks s (loop_of_process m) n));
+  unrolled = λ marks s n m u. let e : times marks s ≡ suc n = c.unrolled marks s n (loop_of_process m) u in omega arith;
 }
   where
-    some : (marks : List ℕ) (s : Statement) → (1 ≤ times marks s → ⊥) → 1 ≤ times marks s
-    some marks s n = let e : times marks s ≡ 1 = c.others marks s (λ k u. n (let e : times marks s ≡ suc k = c.unrolled marks s k u in omega arith)) in omega arith
+    some : (marks : List ℕ) (s : Statement) → LoopAt d marks s → (1 ≤ times marks s → ⊥) → 1 ≤ times marks s
+    some marks s l n = let e : times marks s ≡ 1 = c.others marks s l (λ k u. n (let e : times marks s ≡ suc k = c.unrolled marks s k l u in omega arith)) in omega arith
 
 -- as often as a loop may take turns is enough
-pub most_turns : List ℕ → Statement → ℕ
-most_turns marks s = suc max_turns
-
 pub most_enough : (d : Flat) → IsClean d → CountsEnough d most_turns
-unfolding most_turns
 most_enough d clean = record {
-  once = λ marks s. omega arith;
+  once = λ marks s m. omega arith;
   unrolled = λ marks s n m u. let h : n ≤ max_turns = few_turns d clean m u.body_is u.turns_are u.walk in omega arith;
 }

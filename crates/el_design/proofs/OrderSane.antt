@@ -1,33 +1,29 @@
 -- In a design that breaks no rule, what a statement comes to is never lost, takes no more events than its size, and is left by a walk.
 use Rattle.std.proofs.Common.{◌≡◌, ◌⊎◌, inl, inr, ℕ, zero, suc, ◌+◌, ◌*◌, ◌<◌, ◌≤◌, ◌&&◌, ◌==◌, Bool, true, false, if◌then◌else◌, List, [], ◌∷◌, ◌++◌, Option, Some, None, Contains, All, slice_get, get_or, zip, map, length, option_map, unwrap_or, flat_map, refl, sym, ◌∙◌, ap, subst, arith, eq-eqb}
-use Rattle.std.specs.List.{list_all}
-use Rattle.std.proofs.lemmas.List.Folds.{list_all-append}
 use Rattle.std.proofs.lemmas.List.Elements.{Contains-append_left, Contains-append_right}
 use Rattle.xt_base.specs.declared.refusals.Place.{Place}
 use Rattle.xt_bits.specs.Word.{Word}
-use Rattle.xt_bits.specs.Operators.{eq_of}
 use Rattle.xt_bits.specs.Stimulus.{Reply}
-use Rattle.el_design.specs.Plain.{Expr, Number, NetValue, Variable, MemoryWord, Select, Unary, Binary, Choice, Concat, Copies, Sign, Resize, Call, Lvalue, ToVariable, Statement, Null, Skip, Seq, Block, Assign, If, Case, Arm, For, While, Repeat, Forever, Wait, Enable, Disable, Host, FlatTask, FlatProc, Flat}
-use Rattle.el_design.specs.Store.{Store, Write, put_all}
-use Rattle.el_design.specs.Value.{Scene, value}
+use Rattle.el_design.specs.Plain.{Expr, Number, NetValue, Variable, MemoryWord, Select, Unary, Binary, Choice, Concat, Copies, Sign, Resize, Call, Lvalue, ToVariable, Statement, Null, Skip, Seq, Block, Assign, If, Case, Arm, For, While, Repeat, Forever, Wait, Enable, Disable, Host, FlatTask, Flat}
+use Rattle.el_design.specs.Store.{Write, put_all}
+use Rattle.el_design.specs.Value.{value}
 use Rattle.el_design.specs.Assign.{writes_of, has_label, arm_chosen, count_of}
-use Rattle.el_design.specs.Names.{nodes_of, nodes_of_all, range_nodes, is_constant, labels_in, target_variables, own_targets, listed}
-use Rattle.el_design.specs.Stack.{Work, Do, End, Return, Test, Step, Turns, Await, below_mark}
+use Rattle.el_design.specs.Names.{nodes_of, nodes_of_all, range_nodes, is_constant, target_variables}
+use Rattle.el_design.specs.Stack.{Work, Do, End, Return, Step, Turns, Await, below_mark}
 use Rattle.el_design.specs.InPlace.{Stands, itself, Meets}
 use Rattle.el_design.specs.InPlace as place
 use Rattle.el_design.specs.Calls.{Routine, TaskOf, Uses, Leads, leads, LeadsTo, there, onward, task_body}
 use Rattle.el_design.specs.Calls as call
-use Rattle.el_design.specs.Turns.{fixed, holds, stored_by, formals_in, turned, goes_on, IsCounted, HasTurns, of_repeat, of_while, of_for, IsEndlessFor, endless_for, IsEndlessWhile, IsConstantLoop, body_of}
-use Rattle.el_design.specs.Walk.{choices, is_constant_case, MayGo, HasWalk, IsUnrolled}
+use Rattle.el_design.specs.Turns.{fixed, holds, stored_by, formals_in, turned, goes_on, IsCounted, HasTurns, of_repeat, of_while, of_for, IsEndlessFor, endless_for, IsConstantLoop}
+use Rattle.el_design.specs.Walk.{choices, is_constant_case, MayGo, HasWalk}
 use Rattle.std.specs.List.{sum_by}
 use Rattle.std.proofs.lemmas.List.Sums.{sum_by-cons}
-use Rattle.el_design.specs.Sizes.{node_size, Counting, size_of, exprs_size, expr_size, targets_size}
+use Rattle.el_design.specs.Sizes.{node_size, Counting, size_of, exprs_size, expr_size}
 use Rattle.el_design.specs.Rules.{max_turns, IsClean}
 use Rattle.el_design.specs.Sound.{IsPlainVariable, IsStatement, ChooseBy}
 use Rattle.el_design.specs.Act.{copied_in, copied_out, reply_written}
-use Rattle.el_design.specs.Alone.{Doing, Outcome, Falls, Stops, Jumps, Lost, Setting, seen, counted, writing, assigning, stepped, asking, replying, is_tested, and_then, closed, returned, loop, turns_of, enabling, disabling, awaiting, go}
+use Rattle.el_design.specs.Alone.{Doing, Outcome, Falls, Stops, Lost, Setting, seen, counted, writing, assigning, stepped, asking, is_tested, and_then, loop, turns_of, enabling, disabling, awaiting, go}
 use Rattle.el_design.proofs.OrderLists.{con_head, con_tail, con_nil, con_cases}
-use Rattle.el_design.proofs.OrderFoot.{constant_same}
 use Rattle.el_design.proofs.OrderWrites.{WritesIn, writes_in, entered_in, left_in, replied_in}
 use Rattle.el_design.proofs.OrderRule.{CountsEnough, label_way, split, stable, Opens, walked, spins_not, few_turns, no_end, tested_way, counted_turns, IsShaped, shaped_all, turn_first, turn_next, turn_test}
 use Rattle.el_design.proofs.OrderWalk.{Surely, sure, surely, Leaves, leaves_null, leaves_skip, leaves_seq, leaves_first, leaves_block, leaves_named, leaves_ended, leaves_through, leaves_assign, leaves_then, leaves_else, LeavesArms, leaves_case, leaves_host, leaves_passed, leaves_disabled, leaves_enable, leaves_task, leaves_enabled, leaves_forever, leaves_while, leaves_while_turn, leaves_for, leaves_for_turn, leaves_repeat, leaves_repeat_turn}
@@ -160,8 +156,8 @@ module _ (d : Flat) (p : ℕ) (clean : IsClean d) (times : List ℕ → Statemen
   pub has_walk : (marks : List ℕ) (below : List Work) (body : Statement) → Opens marks below → Leaves d below body None → Surely (HasWalk d marks body)
   has_walk marks below body o v = walked d marks below body o v
 
-  pub some_turns : (marks : List ℕ) (x : Statement) → 1 ≤ times marks x
-  some_turns marks x = counts.once marks x
+  pub some_turns : (marks : List ℕ) (x : Statement) → Meets d p marks x → 1 ≤ times marks x
+  some_turns marks x m = counts.once marks x m
 
   pub for_turns : (at : Place) (v n : ℕ) (first test next : Expr) (body : Statement) → HasTurns d (For at v first test next body) n →
       IsCounted d v first test next body × ((k : ℕ) → k < n → goes_on d v first test next k ≡ true) × (goes_on d v first test next n ≡ false)
@@ -600,7 +596,7 @@ module _ (d : Flat) (p : ℕ) (clean : IsClean d) (times : List ℕ → Statemen
             own = 3 + exprs_size calls (first ∷ test ∷ next ∷ []) + size
 
             room : (g.more ≤ 1) ⊎ Leaves d below body None → y.events ≤ times marks (For at v first test next body) * own + x.events
-            room (inl z) = let a : own ≤ times marks (For at v first test next body) * own = at_least _ own (some_turns marks (For at v first test next body)) in
+            room (inl z) = let a : own ≤ times marks (For at v first test next body) * own = at_least _ own (some_turns marks (For at v first test next body) meets) in
                 let b : y.events ≤ g.more * (size + 2) + suc (suc x.events) = g.spent in
                 let k : g.more * (size + 2) ≤ 1 * (size + 2) = Rattle.std.proofs.Common.mul-le-mul z (Rattle.std.proofs.Common.le_refl (size + 2)) in
                 let e : 1 * (size + 2) ≡ size + 2 = Rattle.std.proofs.Common.one-mul (size + 2) in
@@ -658,7 +654,7 @@ module _ (d : Flat) (p : ℕ) (clean : IsClean d) (times : List ℕ → Statemen
             own = 2 + expr_size calls count + size
 
             room : Leaves d below body None ⊎ (y.events ≤ size + suc x.events) → y.events ≤ times marks (Repeat at count body) * own + x.events
-            room (inr b) = let a : own ≤ times marks (Repeat at count body) * own = at_least _ own (some_turns marks (Repeat at count body)) in omega arith
+            room (inr b) = let a : own ≤ times marks (Repeat at count body) * own = at_least _ own (some_turns marks (Repeat at count body) meets) in omega arith
             room (inl l) = stable y.events (times marks (Repeat at count body) * own + x.events)
                 (surely (has_walk marks below body h.opens l) (λ walk. surely (spins_not d clean meets refl walk) (λ k. sure (constant walk k))))
               where
@@ -684,7 +680,7 @@ module _ (d : Flat) (p : ℕ) (clean : IsClean d) (times : List ℕ → Statemen
         size = whole marks body
 
         room : (y : Doing) → y.events ≤ 1 + size + x.events → y.events ≤ times marks (While at test body) * (1 + expr_size calls test + size) + x.events
-        room y b = let a : 1 + expr_size calls test + size ≤ times marks (While at test body) * (1 + expr_size calls test + size) = at_least _ _ (some_turns marks (While at test body)) in omega arith
+        room y b = let a : 1 + expr_size calls test + size ≤ times marks (While at test body) * (1 + expr_size calls test + size) = at_least _ _ (some_turns marks (While at test body) (h.meets marks (While at test body) itself)) in omega arith
 
     -- a `forever` whose body has no such walk
     pub forever_whole : (marks : List ℕ) (below : List Work) (at : Place) (body : Statement) (x : Doing) → (Leaves d below body None → ⊥) →

@@ -1,15 +1,13 @@
 -- A process alone, from the beginning of an edge: it stops, has no more than U events, and then waits inside its statement again.
-use Rattle.std.proofs.Common.{◌≡◌, ◌⊎◌, inl, inr, ℕ, zero, suc, ◌+◌, ◌*◌, ◌<◌, ◌≤◌, Bool, true, false, if◌then◌else◌, List, [], ◌∷◌, Option, Some, None, Contains, slice_get, map, length, refl, sym, ◌∙◌, ap, subst, arith}
+use Rattle.std.proofs.Common.{◌≡◌, ℕ, ◌+◌, ◌<◌, ◌≤◌, Bool, true, false, if◌then◌else◌, List, [], ◌∷◌, Option, Some, None, slice_get, length, refl, sym, ap, subst, arith}
 use Rattle.xt_bits.specs.Word.{Word}
-use Rattle.el_design.specs.Plain.{Statement, Forever, Wait, FlatProc, Flat}
-use Rattle.el_design.specs.Store.{Store}
-use Rattle.el_design.specs.Stack.{Work, Do, settle, start_stack, wake, is_waiting, below_mark}
-use Rattle.el_design.specs.InPlace.{Stands, Meets}
-use Rattle.el_design.specs.Sizes.{size_of, u_of, in_place, counting}
+use Rattle.el_design.specs.Plain.{Statement, Forever, FlatProc, Flat}
+use Rattle.el_design.specs.Stack.{Work, Do, settle}
+use Rattle.el_design.specs.Sizes.{size_of, u_of, counting}
 use Rattle.el_design.specs.Rules.{max_turns, IsClean}
 use Rattle.el_design.specs.Sound.{IsSound}
 use Rattle.el_design.specs.Alone.{Doing, Outcome, Falls, Stops, Jumps, Lost, Setting, go, go_stack, is_stop, setting, Goes, stays}
-use Rattle.el_design.proofs.OrderAlone.{Reaches, Enabled, runs, enabled_runs}
+use Rattle.el_design.proofs.OrderAlone.{Reaches, runs, enabled_runs}
 use Rattle.el_design.proofs.OrderLists.{con_nil}
 use Rattle.el_design.proofs.OrderRule.{CountsEnough, always_waits, IsShaped}
 use Rattle.el_design.proofs.OrderWalk.{Leaves}
@@ -18,8 +16,7 @@ use Rattle.el_design.proofs.OrderSane.{Here, Stated, has_walk, forever_whole}
 use Rattle.el_design.proofs.OrderDepth.{sizes_at, sizes_are, any, sound_tasks, sound_process, tasks_stated, started}
 use Rattle.el_design.proofs.OrderDepth as depth
 use Rattle.el_design.proofs.OrderResume.{resume, resumes, carry, resume_carried}
-use Rattle.el_design.proofs.OrderBeside.{Beside, Resumed, resumed, res_forever}
-use Rattle.el_design.proofs.Settling.{wakes}
+use Rattle.el_design.proofs.OrderBeside.{Beside, resumed, res_forever}
 
 -- the statement that a process is
 abbrev pub root : FlatProc → Statement

@@ -20,7 +20,7 @@ use Rattle.el_design.proofs.OrderCore.{taking, core, is_agent, Good, agent, foll
 use Rattle.el_design.proofs.OrderRest.{follows, ready_ended}
 use Rattle.el_design.proofs.OrderBegins.{starts_fine, continues_fine, begins_good, good_fine}
 
-settled_valued : (d : Flat) (c : Config) → IsSettled d c.row c.store c.nets → Valued d c
+pub settled_valued : (d : Flat) (c : Config) → IsSettled d c.row c.store c.nets → Valued d c
 settled_valued d c h n net is = eq-eqb _ _ (ap (λ w. w.value) (get_or_from_slice_get c.nets n (net_aim d c.row (scene_of d c.store c.nets) n net) (word net.width 0) (h.each n net is)))
 
 -- the events that a chooser lets pass are events
@@ -49,7 +49,7 @@ not_empty {X} xs ys x h k = absurd (let e : [] ≡ x ∷ ys = sym h ∙ k in cc)
 module _ (d : Flat) (order : List ℕ) (checked : IsChecked d order) where
   -- ---- an edge
 
-  begins_one : (a b : Config) → a.edge ≡ b.edge → a.row ≡ b.row → a.store ≡ b.store → a.procs ≡ b.procs → IsSettled d a.row a.store a.nets → IsSettled d b.row b.store b.nets → a ≡ b
+  pub begins_one : (a b : Config) → a.edge ≡ b.edge → a.row ≡ b.row → a.store ≡ b.store → a.procs ≡ b.procs → IsSettled d a.row a.store a.nets → IsSettled d b.row b.store b.nets → a ≡ b
   begins_one a b edge row store procs h k =
       let nets : a.nets ≡ b.nets = nets_one d order checked.ordered a b row store (settled_sized d a.row a.nets a.store h) (settled_sized d b.row b.nets b.store k) (settled_valued d a h) (settled_valued d b k) in
       ap (λ x. made x a.row a.store a.nets a.procs) edge

@@ -1,10 +1,10 @@
 -- Walks that leave a statement, put together by its structure.
-use Rattle.std.proofs.Common.{◌≡◌, ◌≢◌, ◌⊎◌, inl, inr, ℕ, zero, suc, ◌<◌, ◌≤◌, ◌&&◌, ◌==◌, Bool, true, false, if◌then◌else◌, List, [], ◌∷◌, ◌++◌, Option, Some, None, Contains, slice_get, refl, sym, ◌∙◌, ap, subst, arith}
+use Rattle.std.proofs.Common.{◌≡◌, ◌⊎◌, inl, inr, ℕ, zero, suc, ◌==◌, Bool, true, false, if◌then◌else◌, List, [], ◌∷◌, Option, Some, None, Contains, slice_get, refl, sym, ◌∙◌, ap, subst, arith}
 use Rattle.xt_base.specs.declared.refusals.Place.{Place}
-use Rattle.el_design.specs.Plain.{Expr, Lvalue, Statement, Null, Skip, Seq, Block, Assign, If, Case, Arm, For, While, Repeat, Forever, Wait, Enable, Disable, Host, FlatTask, Flat}
+use Rattle.el_design.specs.Plain.{Expr, Lvalue, Statement, Null, Skip, Seq, Block, Assign, If, Case, For, While, Repeat, Forever, Enable, Disable, Host, FlatTask, Flat}
 use Rattle.el_design.specs.Stack.{Work, Do, End, Return, Turns, quiet_step, below_mark}
 use Rattle.el_design.specs.Act.{turn}
-use Rattle.el_design.specs.Turns.{fixed, holds, HasTurns, of_repeat, of_while, of_for, IsEndlessFor, endless_for, IsEndlessWhile, endless_while, IsConstantLoop, body_of, goes_on, IsCounted}
+use Rattle.el_design.specs.Turns.{fixed, holds, HasTurns, of_while, IsEndlessFor, IsEndlessWhile, endless_while, IsConstantLoop, body_of}
 use Rattle.el_design.specs.Assign.{arm_chosen}
 use Rattle.el_design.specs.Walk.{choices, is_constant_case, MayGo, MayTurn, IsFreeLoop, Steps, quietly, assigns, goes_yes, goes_no, chooses, begins_turns, takes_turn, goes_on_for, goes_on_while, takes_none, takes_one, enables, returns, passes, calls, Walks, stays, HasWalk}
 use Rattle.el_design.specs.Walk as walk

@@ -1,16 +1,15 @@
 -- Which variables an event writes, and that all others stay.
-use Rattle.std.proofs.Common.{◌≡◌, ◌≢◌, ◌⊎◌, inl, inr, ℕ, zero, suc, Bool, true, false, if◌then◌else◌, List, [], ◌∷◌, ◌++◌, Option, Some, None, is_some, Contains, slice_get, get_or, set, zip, map, length, flat_map, fold, option_map, unwrap_or, refl, sym, ◌∙◌, ap, subst, get_or-set_other}
+use Rattle.std.proofs.Common.{◌≡◌, ◌⊎◌, inl, inr, ℕ, suc, Bool, List, [], ◌∷◌, ◌++◌, Option, Some, None, Contains, get_or, zip, flat_map, refl, sym, ◌∙◌, subst, get_or-set_other}
 use Rattle.std.proofs.lemmas.List.Elements.{Contains-append_left, Contains-append_right}
-use Rattle.xt_bits.specs.Word.{Word, word}
+use Rattle.xt_bits.specs.Word.{Word}
 use Rattle.xt_bits.specs.Stimulus.{Reply}
 use Rattle.el_design.specs.declared.designs.Port.{Port}
-use Rattle.el_design.specs.declared.designs.Import.{Import}
-use Rattle.el_design.specs.Plain.{Expr, Range, Lvalue, ToVariable, ToPart, ToWord, ToWordPart, Both, Nowhere, Flat}
-use Rattle.el_design.specs.Store.{Store, Write, Spot, Whole, Within, spot_variable, writes_to, put_write, put_all}
+use Rattle.el_design.specs.Plain.{Expr, Lvalue, ToVariable, ToPart, ToWord, ToWordPart, Both, Nowhere, Flat}
+use Rattle.el_design.specs.Store.{Store, Write, Spot, spot_variable, writes_to, put_write, put_all}
 use Rattle.el_design.specs.Value.{Scene, value}
 use Rattle.el_design.specs.Assign.{spots, writes_of, copies_to, after}
 use Rattle.el_design.specs.Names.{target_variables, listed}
-use Rattle.el_design.specs.Act.{copied_in, copied_out, result_written, outputs_written, reply_written, item_word, import_at}
+use Rattle.el_design.specs.Act.{copied_in, copied_out, result_written, outputs_written, reply_written, import_at}
 use Rattle.el_design.proofs.OrderLists.{con_head, con_tail, con_nil}
 
 -- each write is of one of these variables

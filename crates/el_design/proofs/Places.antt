@@ -1,5 +1,5 @@
 -- What a walk comes to stands in place.
-use Rattle.std.proofs.Common.{◌≡◌, ◌<◌, ◌==◌, ℕ, zero, suc, Bool, true, false, if◌then◌else◌, List, [], ◌∷◌, length, Some, None, refl, sym, ◌∙◌, ap, subst, arith}
+use Rattle.std.proofs.Common.{◌≡◌, ◌==◌, ℕ, zero, suc, Bool, true, false, if◌then◌else◌, List, [], ◌∷◌, Some, None, subst, arith}
 use Rattle.std.specs.Prelude.{Contains}
 use Rattle.el_design.specs.Plain.{Statement, Null, Skip, Seq, Block, Assign, If, Case, Arm, For, While, Repeat, Forever, Wait, Enable, Disable, Host, FlatTask, Flat}
 use Rattle.el_design.specs.Stack.{Work, Do, End, Return, Test, Step, Turns, Await, quiet_step, below_mark}
@@ -11,7 +11,7 @@ use Rattle.el_design.specs.Walk.{choices, Steps, Walks}
 use Rattle.el_design.specs.Places.{open_on, ArePlaced, WalksInPlace}
 
 -- what stands in a part stands in the whole
-onward : {tasks : List FlatTask} {marks o p : List ℕ} {s x y : Statement} → Stands tasks marks s o x → Stands tasks o x p y → Stands tasks marks s p y
+pub onward : {tasks : List FlatTask} {marks o p : List ℕ} {s x y : Statement} → Stands tasks marks s o x → Stands tasks o x p y → Stands tasks marks s p y
 onward itself h = h
 onward (in_first e) h = in_first (onward e h)
 onward (in_rest e) h = in_rest (onward e h)
@@ -32,7 +32,7 @@ some_is : {X : Type 0} (a b : X) → Some a ≡ Some b → a ≡ b
 some_is a b e = cc
 
 -- a loop's body
-body_stands : (tasks : List FlatTask) (marks : List ℕ) (s body : Statement) → body_of s ≡ Some body → Stands tasks marks s marks body
+pub body_stands : (tasks : List FlatTask) (marks : List ℕ) (s body : Statement) → body_of s ≡ Some body → Stands tasks marks s marks body
 body_stands tasks marks (For at v a b c x) body e = subst (λ y. Stands tasks marks (For at v a b c x) marks y) (some_is x body e) (in_for itself)
 body_stands tasks marks (While at c x) body e = subst (λ y. Stands tasks marks (While at c x) marks y) (some_is x body e) (in_while itself)
 body_stands tasks marks (Repeat at c x) body e = subst (λ y. Stands tasks marks (Repeat at c x) marks y) (some_is x body e) (in_repeat itself)

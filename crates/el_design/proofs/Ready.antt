@@ -21,7 +21,7 @@ enabled_acts : (d : Flat) (s : Scene) (p : Process) (k : List Work) (at : _) (in
 enabled_acts d s p k at ins outs None = refl
 enabled_acts d s p k at ins outs (Some t) = refl
 
-replied_acts : (d : Flat) (s : Scene) (p : Process) (k : List Work) (at : _) (f : ℕ) (result : _) (outs : _) (rs : List Reply) → is_some (replied d s p k at f result outs rs) ≡ not (Rattle.el_design.specs.Queue.is_none_left rs)
+replied_acts : (d : Flat) (s : Scene) (p : Process) (k : List Work) (at : _) (f : ℕ) (result : _) (outs : _) (rs : List Reply) → is_some (replied d s p k at f result outs rs) ≡ not (Rattle.el_design.specs.Queue.is_empty rs)
 replied_acts d s p k at f result outs [] = refl
 replied_acts d s p k at f result outs (r ∷ rs) = refl
 

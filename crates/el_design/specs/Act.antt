@@ -1,4 +1,4 @@
--- The event of a process, by the top of its still stack (IEEE 1364-2005, clauses 9 and 10). It gives data: what is written, and the process after it.
+-- The event of a process, by the top of its still stack (IEEE 1364-2005, clauses 9 and 10; calls of the host are this project's own). It gives data: what is written, and the process after it.
 use Rattle.std.specs.Prelude.{ℕ, zero, suc, Bool, true, false, if◌then◌else◌, List, [], ◌∷◌, ◌++◌, get_or, slice_get, Option, Some, None, is_some, option_map, unwrap_or, zip}
 use Rattle.xt_base.specs.declared.refusals.Place.{Place}
 use Rattle.xt_bits.specs.Stimulus.{Reply}
@@ -44,12 +44,13 @@ abbrev pub turn : Place → ℕ → Statement → List Work → List Work
 turn at zero body k = k
 turn at (suc left) body k = Do body ∷ Turns at left body ∷ k
 
--- the inputs of an enable, all evaluated before it copies them to the formals
+-- the inputs of an enable, all evaluated before it copies them to the formals (IEEE 1364-2005, 10.2.2; the order is this project's own)
 abbrev pub copied_in : Flat → Scene → List (ℕ × Expr) → List Write
 copied_in d s [] = []
 copied_in d s (x ∷ xs) = writes_of d s (ToVariable x.0) (value d s x.1) ++ copied_in d s xs
 
--- the outputs of a task at its return, in order: the target's indexes are evaluated, then the formal is copied
+-- the outputs of a task at its return, in order: the target's indexes are evaluated, then the formal is copied (IEEE 1364-2005, 10.2.2; the order, and that indexes are
+-- evaluated at the return, are this project's own)
 abbrev pub copied_out : Flat → Scene → List (ℕ × Lvalue) → List Write
 copied_out d s [] = []
 copied_out d s (x ∷ xs) =
@@ -76,7 +77,7 @@ import_at d f none fact = unwrap_or (option_map fact (slice_get d.imports f)) no
 abbrev pub item_word : Reply → ℕ → Port → Word
 item_word r i port = word port.width (get_or r.items i 0)
 
--- the outputs of a reply in order, their items from the i-th on, and then its result, which is item 0
+-- the outputs of a reply in order, their items from the i-th on, and then its result, which is item 0; this is this project's own
 abbrev pub result_written : Flat → Scene → Reply → Option Port → Option Lvalue → List Write
 result_written d s r (Some port) (Some t) = copies_to d s t (item_word r 0 port) port.signed
 result_written d s r port t = []

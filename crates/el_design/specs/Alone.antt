@@ -9,9 +9,9 @@ use Rattle.el_design.specs.Plain.{Expr, Lvalue, ToVariable, Statement, Null, Ski
 use Rattle.el_design.specs.Store.{Store, Write, put_all}
 use Rattle.el_design.specs.Value.{Scene, value, is_up}
 use Rattle.el_design.specs.Assign.{writes_of, has_label, count_of}
-use Rattle.el_design.specs.Stack.{Work, Do, End, Return, Test, Step, Turns, Await, settle, below_mark}
+use Rattle.el_design.specs.Stack.{Work, Do, End, Return, Test, Step, Turns, Await, below_mark}
 use Rattle.el_design.specs.Act.{Process, act, copied_in, copied_out, arguments, import_at, reply_written}
-use Rattle.el_design.specs.Queue.{Config, scene_of, is_none_left, is_stuck}
+use Rattle.el_design.specs.Queue.{is_empty, Config, scene_of, is_stuck}
 use Rattle.std.specs.List.{list_any}
 
 -- the variables, what a process has beside its stack, and how many events it has had
@@ -179,7 +179,7 @@ abbrev pub is_stop : List Work → List Reply → Bool
 is_stop [] rs = true
 is_stop (Do (Wait at falling) ∷ k) rs = true
 is_stop (Do (Arm on labels body others) ∷ k) rs = true
-is_stop (Await at f result outs ∷ k) rs = is_none_left rs
+is_stop (Await at f result outs ∷ k) rs = is_empty rs
 is_stop k rs = false
 
 -- ---- a process alone: no other takes an event, and nets stay as they are
@@ -202,7 +202,7 @@ pub data Goes (d : Flat) (nets : List Word) : List Work → Doing → List Work 
   stays : {k : List Work} {x : Doing} → Goes d nets k x k x
   takes : {k mid end : List Work} {x y z : Doing} → lone_step d nets (lone k x) ≡ Some (lone mid y) → y.events ≡ suc x.events → Goes d nets mid y end z → Goes d nets k x end z
 
--- ---- an edge in the order of the first place: process after process, and then the updates of each
+-- ---- what an edge makes of the variables and processes, process after process and then the updates of each; nets are left out, they stay as they were
 
 abbrev pub doing : Store → Process → Doing
 doing store p = record { store = store; updates = p.updates; replies = p.replies; calls = p.calls; delays = p.delays; events = 0 }

@@ -1,4 +1,4 @@
--- What an assignment writes (IEEE 1364-2005, 9.2), and what a test, a choice of a `case` and a count come to.
+-- What an assignment writes (IEEE 1364-2005, 9.2), and what a test, a choice of a `case` and a count come to (9.4 to 9.6).
 use Rattle.std.specs.Prelude.{ℕ, suc, ◌-◌, Bool, if◌then◌else◌, List, [], ◌∷◌, ◌++◌, ℤ, pos, negsuc, ◌-ℤ◌}
 use Rattle.std.specs.List.{list_any}
 use Rattle.xt_bits.specs.Word.{Word, integer_of}
@@ -20,7 +20,7 @@ range_low d s v r = lowest d s r -ℤ pos (declared d v (λ x. x.lsb))
 abbrev pub place_at : Flat → Scene → ℕ → Expr → ℕ
 place_at d s v i = place_of d v (integer_of (value d s i) (is_signed i))
 
--- the spots of a target, from left to right, with all its indexes evaluated
+-- the spots of a target, from left to right, with all its indexes evaluated before any is stored, which is this project's own
 abbrev pub spots : Flat → Scene → Lvalue → List Spot
 spots d s (ToVariable v) = Whole v 0 (width_of d v) ∷ []
 spots d s (ToPart v r) = Within v 0 (range_low d s v r) (range_width r) ∷ []
@@ -33,7 +33,7 @@ spots d s Nowhere = []
 abbrev pub writes_of : Flat → Scene → Lvalue → Word → List Write
 writes_of d s t x = writes_to (spots d s t) x
 
--- the same of a value that has its own width and sign, as an output argument has: it is extended by its sign, or cut (IEEE 1364-2005, 5.5.3)
+-- the same of a value that has its own width and sign, as an output argument has: it is extended by its sign, or cut (IEEE 1364-2005, 5.5.3 and 10.2.2)
 abbrev pub copies_to : Flat → Scene → Lvalue → Word → Bool → List Write
 copies_to d s t x signed = let ps = spots d s t in writes_to ps (extend_of x (total_width ps) signed)
 

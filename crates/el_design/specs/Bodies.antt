@@ -1,11 +1,11 @@
--- A function's body run by its structure, and the same run by the stack.
-use Rattle.std.specs.Prelude.{◌≡◌, ℕ, zero, suc, ◌^◌, Bool, true, false, List, [], ◌∷◌, Some}
+-- A function's body run by its structure, and the same run by the stack. All of it is this project's own.
+use Rattle.std.specs.Prelude.{◌≡◌, ℕ, zero, suc, ◌^◌, Bool, true, false, List, [], ◌∷◌, Some, fold, zip, slice_get}
 use Rattle.xt_bits.specs.Word.{Word}
-use Rattle.el_design.specs.Plain.{Statement, Null, Skip, Seq, Block, Assign, If, Case, Arm, For, While, Repeat, Forever, Wait, Enable, Disable, Host, Flat}
-use Rattle.el_design.specs.Store.{Store, width_of, put_all}
-use Rattle.el_design.specs.Value.{Scene, value, is_up}
+use Rattle.el_design.specs.Plain.{Statement, Null, Skip, Seq, Block, Assign, If, Case, Arm, For, While, Repeat, FlatFunc, Flat}
+use Rattle.el_design.specs.Store.{Store, width_of, put_all, empty_store}
+use Rattle.el_design.specs.Value.{value, is_up}
 use Rattle.el_design.specs.Assign.{has_label, count_of}
-use Rattle.el_design.specs.Function.{body_scene, assigned, body_store}
+use Rattle.el_design.specs.Function.{body_scene, assigned, body_store, bound, call_of}
 use Rattle.el_design.specs.Stack.{Work, Do, settle}
 use Rattle.el_design.specs.Act.{Process, Acted, act}
 
@@ -29,7 +29,8 @@ abbrev pub Turns : ℕ → (Store → Type 0) → (Store → Store) → Store �
 Turns zero Fine turn store = Unit {0}
 Turns (suc n) Fine turn store = Fine store × Turns n Fine turn (turn store)
 
--- The statement is one that a function's body may hold, and each `for` that is come to from this store ends within as many turns as its variable has values.
+-- The statement is one that a function's body may hold, each `for` that is come to from this store ends within as many turns as its variable has values,
+-- and the test of each such `while` fails.
 -- Arms stand inside a `case` alone, where it is the arm that is chosen, or the default, that counts.
 abbrev pub Ends : Flat → (ℕ → List Word → Word) → Statement → Bool → Store → Type 0
 Ends d call Null in_case store = Unit {0}
@@ -44,8 +45,13 @@ Ends d call (Arm on labels body others) true store =
     (has_label d (body_scene call store) on labels ≡ true → Ends d call body false store) × (has_label d (body_scene call store) on labels ≡ false → Ends d call others true store)
 Ends d call (For at v first test next body) in_case store =
     EndsWithin (2 ^ width_of d v) (λ st. is_up (value d (body_scene call st) test)) (Ends d call body false) (λ st. assigned d call v next (body_store d call body st)) (assigned d call v first store)
+Ends d call (While at test body) in_case store = is_up (value d (body_scene call store) test) ≡ false
 Ends d call (Repeat at count body) in_case store = Turns (count_of d (body_scene call store) count) (Ends d call body false) (body_store d call body) store
 Ends d call s in_case store = ⊥
+
+-- In this design every function's body is such a one, whatever its arguments.
+abbrev pub FunctionsEnd : Flat → Type 0
+FunctionsEnd d = (f : ℕ) (g : FlatFunc) (args : List Word) → slice_get d.funcs f ≡ Some g → Ends d (call_of d) g.body false (fold (bound d) (empty_store d) (zip g.ins args))
 
 -- The events of such a statement, taken off the stack one by one, come to its end with the store that its structure gives.
 abbrev pub BodyRuns : Flat → (ℕ → List Word → Word) → Statement → List Work → Store → Type 0

@@ -1,7 +1,7 @@
 -- Which statements stand in which: in the text, or in place, with the body of each enabled task at its enable. All of it is this project's own.
-use Rattle.std.specs.Prelude.{◌≡◌, ℕ, List, [], ◌∷◌, Some, None, slice_get}
+use Rattle.std.specs.Prelude.{◌≡◌, ℕ, List, [], ◌∷◌, Some, None, Contains, slice_get}
 use Rattle.xt_base.specs.declared.refusals.Place.{Place}
-use Rattle.el_design.specs.Plain.{Expr, Lvalue, Statement, Seq, Block, If, Case, Arm, For, While, Repeat, Forever, Enable, FlatTask, FlatProc, Flat}
+use Rattle.el_design.specs.Plain.{Expr, Lvalue, Statement, Seq, Block, If, Case, Arm, For, While, Repeat, Forever, Enable, FlatTask, FlatProc, FlatFunc, Flat}
 
 -- In a statement, with these marks open round it, stands another, with those marks open round that. The tasks are those whose bodies are taken in.
 pub data Stands (tasks : List FlatTask) : List ℕ → Statement → List ℕ → Statement → Type 0 where
@@ -42,6 +42,11 @@ pub record Meets (d : Flat) (p : ℕ) (marks : List ℕ) (x : Statement) : Type 
   pub process : FlatProc
   pub is : slice_get d.procs p ≡ Some process
   pub stands : Stands d.tasks [] process.body marks x
+
+-- a loop at a place where it stands, with the marks that are open there: of a process in place, or of a function
+pub data LoopAt (d : Flat) : List ℕ → Statement → Type 0 where
+  loop_of_process : {p : ℕ} {marks : List ℕ} {x : Statement} → Meets d p marks x → LoopAt d marks x
+  loop_of_function : {g : FlatFunc} {marks : List ℕ} {x : Statement} → Contains d.funcs g → Stands [] [] g.body marks x → LoopAt d marks x
 
 -- a block or task with this mark is part of a process in place
 pub data IsPart (d : Flat) (p m : ℕ) : Type 0 where

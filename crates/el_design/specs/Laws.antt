@@ -1,4 +1,4 @@
--- Laws that say the definitions again in the words of the rules of execution.
+-- Laws that say the definitions again in the words of the rules of execution. All of it is this project's own.
 use Rattle.std.specs.Prelude.{◌≡◌, ◌⊎◌, ◌≤◌, ◌==◌, ℕ, zero, suc, Bool, true, false, not, ◌&&◌, if◌then◌else◌, List, [], ◌∷◌, ◌++◌, map, length, slice_get, Some, is_some}
 use Rattle.std.specs.List.{list_any}
 use Rattle.xt_bits.specs.Word.{Word}
@@ -8,9 +8,11 @@ use Rattle.el_design.specs.Plain.{Statement, Null, Skip, Seq, Block, Arm, Foreve
 use Rattle.el_design.specs.Value.{Scene}
 use Rattle.el_design.specs.Stack.{Work, Do, quiet_step, IsStill, settle, is_waiting, is_ended}
 use Rattle.el_design.specs.Act.{Process, act}
+pub use Rattle.el_design.specs.Queue.{is_empty}
 use Rattle.el_design.specs.Queue.{Config, has_value, is_stuck, can_run, Event, Run, Follow, Update, ready, IsStarved, IsAtRest}
-use Rattle.el_design.specs.Run.{Starts, Continues, Takes, Any, Runs}
-use Rattle.el_design.specs.Sizes.{CountsTurns, u_of}
+use Rattle.el_design.specs.Run.{IsStimulus, Starts, Continues, Takes, Any, Runs}
+use Rattle.el_design.specs.Sizes.{CountsTurns, CountsStops, u_of}
+use Rattle.el_design.specs.Rules.{most_turns}
 
 -- so many steps that are no events lead from a stack to another
 abbrev pub QuietSteps : ℕ → List Work → List Work → Type 0
@@ -56,10 +58,6 @@ places_from n test (x ∷ xs) = if test n x then n ∷ places_from (suc n) test 
 abbrev pub has_updates : Process → Bool
 has_updates p = elim p.updates [ [] ↦ false | ws ∷ more ↦ true ]
 
-abbrev pub is_empty : {X : Type 0} → List X → Bool
-is_empty [] = true
-is_empty (x ∷ xs) = false
-
 -- Each process, by number, that has an event; each net, by number, whose value differs from its expression's; and where there is none of these,
 -- and no process is at a call for which no reply is left, the oldest update of each process, by number, that has one.
 abbrev pub listed : Flat → Config → List Event
@@ -102,13 +100,28 @@ abbrev pub events_of : ℕ → List Event → ℕ
 events_of p [] = 0
 events_of p (e ∷ es) = if is_event_of p e then suc (events_of p es) else events_of p es
 
--- in each edge of each run no process has more events than its U, an unrolled loop of T turns counting T + 1 times
-abbrev pub AtMostUEvents : Flat → Type 0
-AtMostUEvents d =
-    (times : List ℕ → Statement → ℕ) → CountsTurns d times →
+-- in each edge of each run no process has more events than its U, each loop counting so many times
+abbrev pub HasAtMostU : Flat → (List ℕ → Statement → ℕ) → Type 0
+HasAtMostU d times =
     (x : Stimulus) (rows : List (List Word)) (begin end : Config) (es : List Event) → EdgeBegins d x rows begin → Takes d Any 0 begin es end →
     (p : ℕ) (process : FlatProc) → slice_get d.procs p ≡ Some process → events_of p es ≤ u_of d times process
+
+-- an unrolled loop of T turns counts T + 1 times, and any other loop once
+abbrev pub AtMostUEvents : Flat → Type 0
+AtMostUEvents d = (times : List ℕ → Statement → ℕ) → CountsTurns d times → HasAtMostU d times
+
+-- How often each loop counts where it stands is a number, in U and in S.
+abbrev pub LoopsCount : Flat → Type 0
+LoopsCount d = ((times : List ℕ → Statement → ℕ) × CountsTurns d times) × ((often : List ℕ → Statement → ℕ) × CountsStops d often)
+
+-- each loop counts as often as an unrolled one may
+abbrev pub AtMostMaxEvents : Flat → Type 0
+AtMostMaxEvents d = HasAtMostU d most_turns
 
 -- whatever events are taken, there is one trace
 abbrev pub EveryOrder : Flat → Type 0
 EveryOrder d = (x : Stimulus) (plays others : List (List Event)) (trace other : Trace) → Runs d x plays trace → Runs d x others other → trace ≡ other
+
+-- there is a run for each stimulus that fits
+abbrev pub EveryStimulusRuns : Flat → Type 0
+EveryStimulusRuns d = (x : Stimulus) → IsStimulus d x → (plays : List (List Event)) × ((trace : Trace) × Runs d x plays trace)

@@ -19,7 +19,6 @@ pub mod Sizes
 pub mod Purity
 pub mod Calls
 pub mod Rules
-pub mod Simulated
 pub mod Sound
 pub mod Checked
 pub mod Places

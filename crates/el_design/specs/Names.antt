@@ -1,4 +1,4 @@
--- What stands in expressions, targets and statements, and what these name.
+-- What stands in expressions, targets and statements, and what these name. All of it is this project's own.
 use Rattle.std.specs.Prelude.{ℕ, Bool, true, false, List, [], ◌∷◌, ◌++◌, Option, Some, None, flat_map}
 use Rattle.std.specs.List.{filter_map, list_all}
 use Rattle.xt_base.specs.declared.refusals.Place.{Place}
@@ -110,7 +110,7 @@ is_nowhere t = false
 
 -- ---- statements
 
-abbrev pub listed : Option Lvalue → List Lvalue
+abbrev pub listed : {X : Type 0} → Option X → List X
 listed None = []
 listed (Some t) = t ∷ []
 

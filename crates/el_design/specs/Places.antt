@@ -1,4 +1,4 @@
--- Where the statements stand that a walk comes to.
+-- Where the statements stand that a walk comes to. This project's own.
 use Rattle.std.specs.Prelude.{ℕ, List, [], ◌∷◌}
 use Rattle.el_design.specs.Plain.{Statement, Flat}
 use Rattle.el_design.specs.Stack.{Work, Do, End, Return, Turns}

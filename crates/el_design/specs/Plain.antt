@@ -1,4 +1,4 @@
--- The flat design as plain data: what the definitions of this crate recurse on. `View` says how a design stands for it.
+-- The flat design as plain data: what the definitions of this crate recurse on. `View` says how a design stands for it. This form is this project's own.
 use Rattle.std.specs.Prelude.{ℕ, Bool, List, Option}
 use Rattle.xt_base.specs.declared.refusals.Place.{Place}
 use Rattle.xt_bits.specs.Word.{Word}
@@ -50,7 +50,7 @@ pub data Lvalue : Type 0 where
   Both : Lvalue → Lvalue → Lvalue
   Nowhere : Lvalue
 
--- a statement (IEEE 1364-2005, clause 9). A list of statements is `Seq` of its first and the others, and `Skip` ends it.
+-- a statement (IEEE 1364-2005, clauses 9 and 10; a host call is this project's own). A list of statements is `Seq` of its first and the others, and `Skip` ends it.
 -- The arms of a `case` are `Arm on labels body others`, and the default ends them; `on` is the expression of the `case` again.
 pub data Statement : Type 0 where
   Null : Statement

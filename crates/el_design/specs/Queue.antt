@@ -37,13 +37,13 @@ net_aim d row s n net = elim net.value [ None ↦ pin_value d row n net.width | 
 abbrev pub has_value : Flat → Config → ℕ → FlatNet → Bool
 has_value d c n net = eq_of (get_or c.nets n (word net.width 0)) (net_aim d c.row (scene d c) n net)
 
-abbrev pub is_none_left : List Reply → Bool
-is_none_left [] = true
-is_none_left (r ∷ rs) = false
+abbrev pub is_empty : {X : Type 0} → List X → Bool
+is_empty [] = true
+is_empty (x ∷ xs) = false
 
 -- a process at a call for which no reply is left
 abbrev pub is_stuck_at : List Work → List Reply → Bool
-is_stuck_at (Await at f result outs ∷ k) rs = is_none_left rs
+is_stuck_at (Await at f result outs ∷ k) rs = is_empty rs
 is_stuck_at k rs = false
 
 abbrev pub is_stuck : Process → Bool
@@ -64,7 +64,7 @@ abbrev pub can_run_at : List Work → List Reply → Bool
 can_run_at [] rs = false
 can_run_at (Do x ∷ k) rs = can_do x
 can_run_at (End m ∷ k) rs = false
-can_run_at (Await at f result outs ∷ k) rs = not (is_none_left rs)
+can_run_at (Await at f result outs ∷ k) rs = not (is_empty rs)
 can_run_at (w ∷ k) rs = true
 
 abbrev pub can_run : Process → Bool
@@ -107,7 +107,8 @@ abbrev pub are_valued : Flat → Config → ℕ → List FlatNet → Bool
 are_valued d c n [] = true
 are_valued d c n (net ∷ nets) = has_value d c n net && are_valued d c (suc n) nets
 
--- updates come only where no process has an event, each net has its value, and no process is at a call for which no reply is left
+-- Updates come only where no process has an event, each net has its value, and no process is at a call for which no reply is left (IEEE 1364-2005, 11.3). Those of one
+-- process come in order (11.4.1); that those of several come in any order, one at a time, and nets between them, is this project's own.
 abbrev pub is_quiet : Flat → Config → Bool
 is_quiet d c = not (list_any can_run c.procs) && are_valued d c 0 d.nets && not (list_any is_stuck c.procs)
 

@@ -1,17 +1,17 @@
 -- The rules that a flat design keeps, each with the place of a break, and the first break. All of it is this project's own.
-use Rattle.std.specs.Prelude.{◌≡◌, ◌≢◌, ◌⊎◌, ◌+◌, ◌*◌, ◌<◌, ◌≤◌, ℕ, true, List, [], Some, Contains, map, sum, length, slice_get}
+use Rattle.std.specs.Prelude.{◌≡◌, ◌≢◌, ◌⊎◌, ◌+◌, ◌*◌, ◌<◌, ◌≤◌, ℕ, suc, true, List, [], Some, Contains, map, sum, length, slice_get}
 use Rattle.xt_base.specs.declared.refusals.Place.{Place}
 use Rattle.el_design.specs.declared.designs.Var.{Var}
-use Rattle.el_design.specs.Plain.{Expr, Statement, FlatNet, FlatProc, FlatFunc, Flat}
+use Rattle.el_design.specs.Plain.{Expr, Statement, FlatNet, FlatProc, Flat}
 use Rattle.el_design.specs.Names.{calls_in, place_of_statement}
-use Rattle.el_design.specs.InPlace.{Meets, Stands}
+use Rattle.el_design.specs.InPlace.{LoopAt}
 use Rattle.el_design.specs.Turns.{HasTurns, IsEndlessFor, IsConstantLoop, body_of}
 use Rattle.el_design.specs.Walk.{HasWalk}
 use Rattle.el_design.specs.Touches.{WritesBlocking, WritesNonblocking, Writes, Reads, ReadsNet, Reaches, DependsOn}
 use Rattle.el_design.specs.Sizes.{once, CountsTurns, CountsStops, u_of, s_of, nets_size}
 use Rattle.el_design.specs.Calls.{IsImpure, IsRecursive, HasMisfit, DisablesWrongly, CallsHostInside, Chain, FunctionOf, BodyIs}
 
--- ---- limits
+-- ---- limits: of a process's U and S, of the sums over processes and over nets, of the turns of an unrolled loop, and of enables and calls in one another
 
 abbrev pub max_u : ℕ
 max_u = 20000
@@ -19,11 +19,18 @@ max_u = 20000
 abbrev pub max_s : ℕ
 max_s = 512
 
-abbrev pub max_sum : ℕ
-max_sum = 500000
+abbrev pub max_products : ℕ
+max_products = 500000
+
+abbrev pub max_nets_size : ℕ
+max_nets_size = 500000
 
 abbrev pub max_turns : ℕ
 max_turns = 1024
+
+-- each loop counted as often as an unrolled one may count
+abbrev pub most_turns : List ℕ → Statement → ℕ
+most_turns marks s = suc max_turns
 
 abbrev pub max_nesting : ℕ
 max_nesting = 64
@@ -37,11 +44,6 @@ pub data NestsTooDeep (d : Flat) : Place → Type 0 where
   process_large : {process : FlatProc} → Contains d.procs process → max_u < u_of d once process → NestsTooDeep d process.place
 
 -- ---- walks (rules 61 and 83)
-
--- a loop at a place where it stands, with the marks that are open there: of a process in place, or of a function
-pub data LoopAt (d : Flat) : List ℕ → Statement → Type 0 where
-  loop_of_process : {p : ℕ} {marks : List ℕ} {x : Statement} → Meets d p marks x → LoopAt d marks x
-  loop_of_function : {g : FlatFunc} {marks : List ℕ} {x : Statement} → Contains d.funcs g → Stands [] [] g.body marks x → LoopAt d marks x
 
 -- a loop that isn't of constant bound has a walk from its body's start to its end without a clock wait; an `always` is such a loop
 pub data SpinsAt (d : Flat) : Place → Type 0 where
@@ -68,8 +70,8 @@ pub data IsTooLarge (d : Flat) : Place → Type 0 where
   large_s : {process : FlatProc} (often : List ℕ → Statement → ℕ) →
       CountsStops d often → Contains d.procs process → max_s < s_of d often process → IsTooLarge d process.place
   large_products : (times often : List ℕ → Statement → ℕ) →
-      CountsTurns d times → CountsStops d often → max_sum < products d times often → IsTooLarge d d.head
-  large_nets : (times : List ℕ → Statement → ℕ) → CountsTurns d times → max_sum < nets_size d times → IsTooLarge d d.head
+      CountsTurns d times → CountsStops d often → max_products < products d times often → IsTooLarge d d.head
+  large_nets : (times : List ℕ → Statement → ℕ) → CountsTurns d times → max_nets_size < nets_size d times → IsTooLarge d d.head
 
 -- ---- races (rules 70, 71 and 72) and loops of nets (rule 73)
 
@@ -114,10 +116,14 @@ IsBefore a b =
     ⊎ ((a.instance ≡ b.instance) × (a.file < b.file))
     ⊎ ((a.instance ≡ b.instance) × (a.file ≡ b.file) × (a.line < b.line))
 
+-- no rule of an earlier pass is broken
+abbrev pub IsCleanBefore : Flat → ℕ → Type 0
+IsCleanBefore d pass = (other rule : ℕ) (at : Place) → other < pass → Breaks d other rule at → ⊥
+
 -- the break that is named: of the first pass that finds one, the first by place and then by number
 pub record IsFirst (d : Flat) (pass rule : ℕ) (at : Place) : Type 0 where
   pub broken : Breaks d pass rule at
-  pub no_earlier : (other r : ℕ) (b : Place) → other < pass → Breaks d other r b → ⊥
+  pub no_earlier : IsCleanBefore d pass
   pub least : (r : ℕ) (b : Place) → Breaks d pass r b → IsBefore at b ⊎ ((at ≡ b) × (rule ≤ r))
 
 -- no rule of these passes is broken

@@ -1,4 +1,4 @@
--- Edges, runs and traces.
+-- Edges, runs and traces. All of it is this project's own, but that any event may be the next (IEEE 1364-2005, 11.4.2).
 use Rattle.std.specs.Prelude.{◌≡◌, ◌≢◌, ◌⊎◌, ℕ, zero, suc, ◌+◌, ◌*◌, ◌/◌, ◌%◌, ◌^◌, ◌<◌, List, [], ◌∷◌, map, length, get_or, slice_get, Some, zip, All, unwrap_or, option_map}
 use Rattle.xt_bits.specs.Word.{Word, word}
 use Rattle.el_design.specs.declared.designs.Source.{Source}

@@ -2,6 +2,7 @@
 use Rattle.std.specs.Prelude.{◌≡◌, ℕ, zero, suc, ◌+◌, ◌*◌, List, [], ◌∷◌, map, sum, sum_by, length, Option, Some, None, slice_get, option_map, unwrap_or}
 use Rattle.el_design.specs.Plain.{Expr, MemoryWord, Resize, Call, Lvalue, ToVariable, ToPart, ToWord, ToWordPart, Both, Nowhere, Statement, Null, Skip, Seq, Block, Assign, If, Case, Arm, For, While, Repeat, Forever, Wait, Enable, Disable, Host, FlatTask, FlatFunc, FlatNet, FlatProc, Flat}
 use Rattle.el_design.specs.Names.{nodes_of, range_indexes, listed}
+use Rattle.el_design.specs.InPlace.{LoopAt}
 use Rattle.el_design.specs.Walk.{IsUnrolled}
 
 -- a node counts one; a memory word is a name and a select; a call counts the function's body too, of this size; what brings an operand to a width counts nothing
@@ -89,10 +90,10 @@ in_place d times = counting d times (length d.tasks + length d.funcs)
 abbrev pub once : List ℕ → Statement → ℕ
 once marks s = 1
 
--- an unrolled loop of T turns counts T + 1 times in U, and any other loop once
+-- where it stands, an unrolled loop of T turns counts T + 1 times in U, and any other loop once
 pub record CountsTurns (d : Flat) (times : List ℕ → Statement → ℕ) : Type 0 where
-  pub unrolled : (marks : List ℕ) (s : Statement) (n : ℕ) → IsUnrolled d marks s n → times marks s ≡ suc n
-  pub others : (marks : List ℕ) (s : Statement) → ((n : ℕ) → IsUnrolled d marks s n → ⊥) → times marks s ≡ 1
+  pub unrolled : (marks : List ℕ) (s : Statement) (n : ℕ) → LoopAt d marks s → IsUnrolled d marks s n → times marks s ≡ suc n
+  pub others : (marks : List ℕ) (s : Statement) → LoopAt d marks s → ((n : ℕ) → IsUnrolled d marks s n → ⊥) → times marks s ≡ 1
 
 -- U: one, and the size of the process's statement
 abbrev pub u_of : Flat → (List ℕ → Statement → ℕ) → FlatProc → ℕ
@@ -130,10 +131,10 @@ abbrev pub stopping : Flat → (List ℕ → Statement → ℕ) → ℕ → Stop
 stopping d often zero = record { in_task = λ marks t. 0; as_often = often }
 stopping d often (suc n) = let c = stopping d often n in record { in_task = λ marks t. task_stops c marks (slice_get d.tasks t); as_often = often }
 
--- an unrolled loop of T turns counts T times in S, and any other loop once
+-- where it stands, an unrolled loop of T turns counts T times in S, and any other loop once
 pub record CountsStops (d : Flat) (often : List ℕ → Statement → ℕ) : Type 0 where
-  pub unrolled : (marks : List ℕ) (s : Statement) (n : ℕ) → IsUnrolled d marks s n → often marks s ≡ n
-  pub others : (marks : List ℕ) (s : Statement) → ((n : ℕ) → IsUnrolled d marks s n → ⊥) → often marks s ≡ 1
+  pub unrolled : (marks : List ℕ) (s : Statement) (n : ℕ) → LoopAt d marks s → IsUnrolled d marks s n → often marks s ≡ n
+  pub others : (marks : List ℕ) (s : Statement) → LoopAt d marks s → ((n : ℕ) → IsUnrolled d marks s n → ⊥) → often marks s ≡ 1
 
 -- S: one, and the waits and host calls in place
 abbrev pub s_of : Flat → (List ℕ → Statement → ℕ) → FlatProc → ℕ
@@ -145,3 +146,14 @@ net_size c n = unwrap_or (option_map (expr_size c.calls) n.value) 0
 
 abbrev pub nets_size : Flat → (List ℕ → Statement → ℕ) → ℕ
 nets_size d times = sum (map (net_size (in_place d times)) d.nets)
+
+-- ---- the size over all instances: each body of a process, task or function counts once, and so does each loop's body; an enable or call counts without the body
+
+abbrev pub apart : Counting
+apart = record { calls = λ f. 0; tasks = λ marks t. 0; times = once }
+
+abbrev pub own_size : Statement → ℕ
+own_size s = size_of apart [] s
+
+abbrev pub total_size : Flat → ℕ
+total_size d = sum_by (λ p. own_size p.body) d.procs + sum_by (λ t. own_size t.body) d.tasks + sum_by (λ f. own_size f.body) d.funcs + sum_by (net_size apart) d.nets

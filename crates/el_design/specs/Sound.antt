@@ -1,5 +1,5 @@
 -- Sound flat designs: what every design keeps that the front end answers. All of it is this project's own.
-use Rattle.std.specs.Prelude.{◌≡◌, ◌≢◌, ◌⊎◌, ◌+◌, ◌*◌, ◌^◌, ◌<◌, ◌≤◌, ℕ, suc, Bool, true, false, List, [], ◌∷◌, ◌++◌, Option, Some, None, IfSome, Contains, All, AllPairs, map, flat_map, sum, length, slice_get, max, zip}
+use Rattle.std.specs.Prelude.{◌≡◌, ◌≢◌, ◌⊎◌, ◌+◌, ◌*◌, ◌^◌, ◌<◌, ◌≤◌, ◌&&◌, ℕ, suc, Bool, true, false, List, [], ◌∷◌, ◌++◌, Option, Some, None, IfSome, Contains, All, AllPairs, map, flat_map, sum, length, slice_get, max, zip}
 use Rattle.xt_base.specs.declared.TheConstants.{MAX_WIDTH}
 use Rattle.el_design.specs.declared.designs.Var.{Var}
 use Rattle.el_design.specs.declared.designs.Pin.{Pin}
@@ -15,7 +15,7 @@ use Rattle.el_design.specs.Plain.{Expr, Number, NetValue, Variable, MemoryWord, 
 use Rattle.el_design.specs.Value.{shape_of, value}
 use Rattle.el_design.specs.Assign.{range_width}
 use Rattle.el_design.specs.Turns.{fixed}
-use Rattle.el_design.specs.Names.{nodes_of, is_constant, variables_in, is_nowhere, target_variables, own_expressions, own_targets, labels_in}
+use Rattle.el_design.specs.Names.{nodes_of, is_constant, variables_in, is_nowhere, target_variables, own_expressions, own_targets, labels_in, listed}
 use Rattle.el_design.specs.InPlace.{Holds}
 use Rattle.el_design.specs.Purity.{variables_of}
 
@@ -235,6 +235,19 @@ statement_depth x = suc (own_depth x)
 
 -- ---- statements
 
+-- each arm stands in a `case`; `inner` is up for what a `case` has
+abbrev pub arms_fit : Bool → Statement → Bool
+arms_fit inner (Seq a b) = arms_fit false a && arms_fit false b
+arms_fit inner (Block at mark body) = arms_fit false body
+arms_fit inner (If at test a b) = arms_fit false a && arms_fit false b
+arms_fit inner (Case at on arms) = arms_fit true arms
+arms_fit inner (Arm on labels body others) = inner && arms_fit false body && arms_fit true others
+arms_fit inner (For at v first test next body) = arms_fit false body
+arms_fit inner (While at test body) = arms_fit false body
+arms_fit inner (Repeat at count body) = arms_fit false body
+arms_fit inner (Forever at body) = arms_fit false body
+arms_fit inner x = true
+
 -- an argument is as wide as the formal of its place at least
 abbrev pub FitsFormal : Flat → ℕ × Expr → Type 0
 FitsFormal d x = (w : ℕ) × IsPlainVariable d x.0 w × (w ≤ width x.1)
@@ -305,17 +318,13 @@ pub record IsFlatNet (d : Flat) (n : FlatNet) : Type 0 where
 abbrev pub ArePorts : List Port → Type 0
 ArePorts ps = All (λ p. IsWidth p.width) ps
 
-abbrev pub option_list : Option Port → List Port
-option_list None = []
-option_list (Some p) = p ∷ []
-
 -- at most 16 inputs, and 16 outputs with the result
 pub record IsImport (f : Import) : Type 0 where
   pub ins : ArePorts f.ins
   pub outs : ArePorts f.outs
   pub result : IfSome f.result (λ p. IsWidth p.width)
   pub few_ins : length f.ins ≤ 16
-  pub few_outs : length (option_list f.result) + length f.outs ≤ 16
+  pub few_outs : length (listed f.result) + length f.outs ≤ 16
 
 abbrev pub HasSource : Flat → Pin → Type 0
 HasSource d pin = source pin.from where
@@ -334,6 +343,7 @@ pub record IsSound (d : Flat) : Type 0 where
   pub tasks : All (λ t. All (λ v. (w : ℕ) × IsPlainVariable d v w) (t.ins ++ t.outs)) d.tasks
   pub funcs : (f : ℕ) (g : FlatFunc) → slice_get d.funcs f ≡ Some g → KeepsToItself d f g
   pub statements : (s x : Statement) → Contains (bodies_of d) s → Holds s x → IsStatement d x
+  pub arms : All (λ s. arms_fit false s ≡ true) (bodies_of d)
   pub shallow : All (λ s. statement_depth s ≤ max_depth) (bodies_of d)
   pub marks_below : All (λ m. m < d.marks) (all_marks d)
   pub marks_distinct : AllPairs (λ a b. a ≢ b) (all_marks d)

@@ -1,4 +1,4 @@
--- A process as a stack of work, and its steps that are no events (IEEE 1364-2005, 9.8 and 9.9).
+-- A process as a stack of work, and its steps that are no events (IEEE 1364-2005, 9.6, 9.8 and 9.9; where a process may stop between events is this project's own).
 use Rattle.std.specs.Prelude.{◌≡◌, ℕ, Bool, true, false, ◌==◌, if◌then◌else◌, List, [], ◌∷◌, Option, Some, None}
 use Rattle.xt_base.specs.declared.refusals.Place.{Place}
 use Rattle.el_design.specs.Plain.{Expr, Lvalue, Statement, Null, Skip, Seq, Block, Forever, Wait, FlatProc}

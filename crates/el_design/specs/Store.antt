@@ -1,4 +1,4 @@
--- What variables hold, and what a write does to it (IEEE 1364-2005, 4.2, 4.9 and 5.2; what is out of range is this project's own).
+-- What variables hold, and what a write does to it (IEEE 1364-2005, 4.2, 4.9, 5.2 and 9.2.1; what is out of range is this project's own).
 use Rattle.std.specs.Prelude.{ℕ, ◌+◌, ◌==◌, if◌then◌else◌, max, List, [], ◌∷◌, map, fold, get_or, set, replicate, slice_get, ℤ, pos, negsuc, ◌-ℤ◌, option_map, unwrap_or}
 use Rattle.xt_bits.specs.Word.{Word, word}
 use Rattle.xt_bits.specs.Operators.{select_of, replace_of}

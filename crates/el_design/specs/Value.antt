@@ -106,7 +106,8 @@ abbrev mutual
   value d s (Copies x n e) = copies (n - 1) (value d s e)
   value d s (Sign x e) = value d s e
   value d s (Resize x e) = extend_of (value d s e) x.width x.signed
-  value d s (Call x f es) = s.call f (values d s es)
+  -- a call has the width of its node, also where it has no value
+  value d s (Call x f es) = word x.width (s.call f (values d s es)).value
 
   pub values : Flat → Scene → Exprs → List Word
   values d s NoExpr = []

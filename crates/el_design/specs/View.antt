@@ -1,4 +1,4 @@
--- How the types of the code stand for plain data: one line for each variant.
+-- How the types of the code stand for plain data: one line for each variant. This project's own.
 use Rattle.std.specs.Prelude.{List, [], ◌∷◌, map, option_map}
 use Rattle.el_design.specs.Plain.{Shape, Expr, Number, NetValue, Variable, MemoryWord, Select, Unary, Binary, Choice, Concat, Copies, Sign, Resize, Call, Exprs, NoExpr, More, Range, Bit, Part, Up, Down, Lvalue, ToVariable, ToPart, ToWord, ToWordPart, Both, Nowhere, Statement, Null, Skip, Seq, Block, Assign, If, Case, Arm, For, While, Repeat, Forever, Wait, Enable, Disable, Host, FlatNet, FlatTask, FlatFunc, FlatProc, Flat}
 use Rattle.el_design.specs.declared.expressions.TExpr.{TExpr}

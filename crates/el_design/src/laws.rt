@@ -4,13 +4,14 @@ ghost use Rattle.el_design.specs.Plain.{Statement, Flat};
 ghost use Rattle.el_design.specs.Store.{Store};
 ghost use Rattle.std.specs.Prelude.{List, ℕ};
 ghost use Rattle.el_design.specs.Checked.{IsChecked};
+ghost use Rattle.el_design.specs.Rules.{IsCleanBefore};
 ghost use Rattle.el_design.specs.Value.{Scene};
 ghost use Rattle.el_design.specs.Stack.{Work};
 ghost use Rattle.el_design.specs.Act.{Process};
 ghost use Rattle.el_design.specs.Queue.{Config};
-ghost use Rattle.el_design.specs.Bodies.{BodyRuns};
+ghost use Rattle.el_design.specs.Bodies.{BodyRuns, FunctionsEnd};
 ghost use Rattle.el_design.specs.Places.{WalksInPlace};
-ghost use Rattle.el_design.specs.Laws.{StacksSettle, ProcessesRun, EventsAreListed, EveryEdgeEnds, AtMostUEvents};
+ghost use Rattle.el_design.specs.Laws.{StacksSettle, ProcessesRun, EventsAreListed, EveryEdgeEnds, LoopsCount, AtMostUEvents, AtMostMaxEvents, EveryStimulusRuns};
 
 /// Steps that are no events lead from each stack to the one that `settle` gives, which is still.
 pub fn stacks_settle()
@@ -32,6 +33,11 @@ pub fn bodies_run()
     ensures { (d : Flat) → (call : ℕ → List Word → Word) → (s : Statement) → (k : List Work) → (store : Store) → BodyRuns d call s k store }
 {}
 
+/// In a design that breaks no rule every function's body ends, so that it is run by its structure.
+pub fn functions_end()
+    ensures { (d : Flat) → (order : List ℕ) → IsChecked d order → FunctionsEnd d }
+{}
+
 /// What a walk from a statement comes to stands in it in place, with those marks open that the walk's stack has open.
 pub fn walks_in_place()
     ensures { (d : Flat) → (marks : List ℕ) → (s : Statement) → (k : List Work) → WalksInPlace d marks s k }
@@ -42,7 +48,19 @@ pub fn every_edge_ends()
     ensures { (d : Flat) → (order : List ℕ) → IsChecked d order → EveryEdgeEnds d }
 {}
 
-/// In a design that breaks no rule no process has more than `U` events in an edge, whatever events are taken.
+/// Where no rule before those on sizes is broken, how often each loop counts in `U` and in `S` is a number.
+pub fn loops_count()
+    ensures { (d : Flat) → IsCleanBefore d 13 → LoopsCount d }
+{}
+
+/// In a design that breaks no rule no process has more than `U` events in an edge, whatever events are taken;
+/// nor more than it would be with each loop counted as often as an unrolled one may count.
 pub fn at_most_u_events()
-    ensures { (d : Flat) → (order : List ℕ) → IsChecked d order → AtMostUEvents d }
+    ensures counted { (d : Flat) → (order : List ℕ) → IsChecked d order → AtMostUEvents d }
+    ensures every_loop { (d : Flat) → (order : List ℕ) → IsChecked d order → AtMostMaxEvents d }
+{}
+
+/// A design that breaks no rule has a run for each stimulus that fits.
+pub fn every_stimulus_runs()
+    ensures { (d : Flat) → (order : List ℕ) → IsChecked d order → EveryStimulusRuns d }
 {}

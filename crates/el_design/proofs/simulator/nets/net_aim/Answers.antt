@@ -1,9 +1,0 @@
-use Rattle.std.proofs.Common.{option_map, ap}
-use Rattle.el_design.specs.View.{expr_of, net_of}
-use Rattle.el_design.specs.Simulated.{flat_seen, scene_seen}
-use Rattle.el_design.proofs.Netting.{aim_pin}
-use Rattle.el_design.proofs.simulator.nets.net_aim.Goals as goal
-
-pub returns-in-None : goal.returns-in-None
-returns-in-None c =
-    aim_pin c.pin_value.result (flat_seen c.args.scene.now) c.args.row.now (scene_seen c.args.scene.now) c.args.at (net_of c.args.net.now) c.as_slice.result.now (ap (option_map expr_of) c.in-None.is) c.as_slice.ensures c.pin_value.ensures

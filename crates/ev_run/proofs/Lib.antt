@@ -1,0 +1,10 @@
+pub mod Acting
+pub mod Outputs
+pub mod Targets
+pub mod Lookups
+pub mod ByKind
+pub mod Waking
+pub mod Netting
+pub mod Queueing
+pub mod Playing
+pub mod Taking

@@ -1,0 +1,101 @@
+//! What an event does to the state of a run.
+ghost use Rattle.std.specs.Prelude.{◌≡◌, slice_get, Some, None, if◌then◌else◌, IfOk};
+ghost use Rattle.el_design.specs.Queue as queue;
+ghost use Rattle.el_design.specs.View.{flat_of};
+ghost use Rattle.ev_run.specs.Simulated.{config_seen, event_seen};
+
+use crate::acts::act;
+use crate::nets::net_aim;
+use crate::operators::Trouble;
+use crate::queue::{Config, Event, has_update, has_value, is_quiet, scene};
+use crate::values::Scene;
+use crate::writes::put_all;
+use el_design::Design;
+use std::alloc::Global;
+
+/// The event of a process; false where it has none.
+fn take_run<'a>(
+    alloc: Global,
+    design: &'a Design,
+    config: &mut Config<'a>,
+    at: usize,
+    budget: u64,
+) -> Result<bool, Trouble>
+    ensures { IfOk result (λ taken. queue.take_run (flat_of design.now) (config_seen config.old) at (slice_get (config_seen config.old).procs at) ≡ (if taken then Some (config_seen config.new) else None)) }
+{
+    if at >= config.procs.len() {
+        return Ok(false);
+    }
+    let scene = Scene {
+        design,
+        nets: config.nets.as_slice(),
+        store: config.store.as_slice(),
+    };
+    match act(alloc, &scene, &mut config.procs[at], budget)? {
+        None => Ok(false),
+        Some(acted) => {
+            put_all(alloc, &mut config.store, acted.writes.as_slice())?;
+            Ok(true)
+        }
+    }
+}
+
+/// A net takes its value; false where it has it.
+fn take_net(
+    alloc: Global,
+    design: &Design,
+    config: &mut Config,
+    at: usize,
+    budget: u64,
+) -> Result<bool, Trouble>
+    ensures { IfOk result (λ taken. queue.take_net (flat_of design.now) (config_seen config.old) at (slice_get (flat_of design.now).nets at) ≡ (if taken then Some (config_seen config.new) else None)) }
+{
+    let Some(net) = design.nets.get(at) else {
+        return Ok(false);
+    };
+    if has_value(alloc, design, config, at, net, budget)? {
+        return Ok(false);
+    }
+    let scene = scene(design, config);
+    let aim = net_aim(alloc, &scene, config.row, at, net, budget)?;
+    if at >= config.nets.len() {
+        return Err(Trouble::Unsound);
+    }
+    config.nets.set(at, aim);
+    Ok(true)
+}
+
+/// The oldest update of a process; false where it has none.
+fn take_update(alloc: Global, config: &mut Config, at: usize) -> Result<bool, Trouble>
+    ensures { IfOk result (λ taken. queue.take_update (config_seen config.old) at (slice_get (config_seen config.old).procs at) ≡ (if taken then Some (config_seen config.new) else None)) }
+{
+    if at >= config.procs.len() || !has_update(&config.procs[at]) {
+        return Ok(false);
+    }
+    let oldest = config.procs[at].updates.remove(0);
+    put_all(alloc, &mut config.store, oldest.as_slice())?;
+    Ok(true)
+}
+
+/// Takes an event; false where it may not be taken.
+pub fn take<'a>(
+    alloc: Global,
+    design: &'a Design,
+    config: &mut Config<'a>,
+    event: Event,
+    budget: u64,
+) -> Result<bool, Trouble>
+    ensures { IfOk result (λ taken. queue.take (flat_of design.now) (config_seen config.old) (event_seen event) ≡ (if taken then Some (config_seen config.new) else None)) }
+{
+    match event {
+        Event::Run(at) => take_run(alloc, design, config, at, budget),
+        Event::Follow(at) => take_net(alloc, design, config, at, budget),
+        Event::Update(at) => {
+            if is_quiet(alloc, design, config, budget)? {
+                take_update(alloc, config, at)
+            } else {
+                Ok(false)
+            }
+        }
+    }
+}
