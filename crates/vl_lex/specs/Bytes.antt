@@ -10,7 +10,7 @@ is_blank b = b == 9 || b == 10 || b == 12 || b == 13 || b == 32
 abbrev pub is_in_number : ℕ → ℕ → Bool
 is_in_number radix b = is_digit b radix || b == 95
 
--- all but the closing `"` and the line's end stand in a string (3.6)
+-- all but the closing `"` and the line's end stand in a string (3.6, without escapes, which are left out)
 abbrev pub is_in_string : ℕ → Bool
 is_in_string b = not (b == 34 || b == 10)
 

@@ -47,7 +47,7 @@ pub record IsBased (bytes : List ℕ) : Type 0 where
   pub is_number : IsBaseWithDigits number
   pub whole : bytes ≡ 39 ∷ sign ++ number
 
--- a string on one line (3.6)
+-- a string on one line (3.6, without escapes)
 pub record IsQuoted (bytes : List ℕ) : Type 0 where
   pub inner : List ℕ
   pub on_line : AllPass is_in_string inner

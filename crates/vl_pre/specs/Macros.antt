@@ -1,4 +1,5 @@
--- Macros (IEEE 1364-2005, 19.3): what they stand for, how they are defined, and what their text is with arguments.
+-- Macros (IEEE 1364-2005, 19.3): what they stand for, how they are defined, and what their text is with arguments. That a continued line gives a blank, that a line
+-- feed of an argument gives one, and which names can't be macros, is this project's own.
 use Rattle.std.specs.Prelude.{ℕ, zero, suc, ◌+◌, ◌&&◌, not, Bool, false, List, [], ◌∷◌, ◌++◌, Option, Some, None, Result, Ok, bytes_eq, drop, unwrap_or, if◌then◌else◌}
 use Rattle.std.specs.List.{prefix_len, list_any}
 use Rattle.std.specs.Map.{update}

@@ -19,7 +19,7 @@ abbrev pub is_at_word : List ℕ → Bool
 is_at_word [] = false
 is_at_word (byte ∷ bytes) = begins_word byte
 
--- what stands in a string (IEEE 1364-2005, 3.6): anything but its end, on its line
+-- what stands in a string (IEEE 1364-2005, 3.6, without escapes, which are left out): anything but its end, on its line
 abbrev pub is_inside : ℕ → Bool
 is_inside byte = not (byte == 34) && not (byte == 10)
 

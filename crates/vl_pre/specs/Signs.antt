@@ -5,7 +5,7 @@ use Rattle.std.specs.Prelude.{ℕ, Bool, ◌||◌, ◌&&◌, ◌==◌, nat_le}
 abbrev pub is_line_feed : ℕ → Bool
 is_line_feed byte = byte == 10
 
--- tab, form feed, carriage return and space (IEEE 1364-2005, 3.2); a line feed is no blank here
+-- tab, form feed and space (IEEE 1364-2005, 3.2), and the carriage return, which is this project's own; a line feed is no blank here
 abbrev pub is_blank : ℕ → Bool
 is_blank byte = byte == 9 || byte == 12 || byte == 13 || byte == 32
 

@@ -1,4 +1,5 @@
--- Uses of macros (IEEE 1364-2005, 19.3): their arguments, and the text that stands in their place. Limits and places are this project's own.
+-- Uses of macros (IEEE 1364-2005, 19.3): their arguments, and the text that stands in their place. Limits and places, the blanks round a use, the brackets that keep
+-- commas in an argument, and that arguments are expanded first, are this project's own.
 use Rattle.std.specs.Prelude.{ℕ, zero, suc, ◌+◌, ◌-◌, ◌==◌, ◌&&◌, ◌||◌, Bool, true, false, List, [], ◌∷◌, ◌++◌, length, drop, Option, Some, None, Result, Ok, nat_lt, nat_le, if◌then◌else◌}
 use Rattle.std.specs.List.{prefix_len}
 use Rattle.vl_pre.specs.Pieces.{Piece, pieces_of, is_byte, is_single, is_space, without_back, word_of}

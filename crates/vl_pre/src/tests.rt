@@ -7,7 +7,7 @@ use xt_base::{MemFiles, NoMemory};
 /// Sources of one file, and their answers.
 ///
 /// In a text `<stretch:line>` stands before each byte whose place isn't that of the byte before it.
-const TEXTS: [(&str, &str); 77] = [
+const TEXTS: [(&str, &str); 78] = [
     // What stays.
     ("", ""),
     ("a b\nc", "<0:1>a b\n<0:2>c"),
@@ -22,6 +22,7 @@ const TEXTS: [(&str, &str); 77] = [
     ("a\n/* b\n", "refused 10 0:2 top.v"),
     ("a\n\"b\nc\"", "refused 10 0:2 top.v"),
     ("`x\n/*", "refused 10 0:2 top.v"),
+    ("`define F(a) a\n`F(\n\x7f)", "refused 10 0:3 top.v"),
     // Conditional directives.
     ("`ifdef A\na\n`else\nb\n`endif\n", "<0:3>\n<0:4>b\n<0:5>\n"),
     ("`ifndef A\na\n`else\nb\n`endif\n", "<0:1>\n<0:2>a\n<0:5>\n"),
