@@ -2,9 +2,12 @@
 use Rattle.std.proofs.Common.{◌≡◌, ◌≤◌, ℕ, zero, suc, Bool, true, false, List, [], ◌∷◌, Some, None, map, refl, sym, ap, ◌∙◌, subst, arith}
 use Rattle.std.specs.Prelude.{slice_get, option_map, All, if◌then◌else◌}
 use Rattle.std.specs.List.{list_any}
+use Rattle.std.proofs.lemmas.List.Elements.{All-nil, All-cons}
 use Rattle.std.proofs.lemmas.Option.{none-some, same_Some}
+use Rattle.xt_bits.specs.Word.{Word}
 use Rattle.nt_core.specs.DesignRun.{IsDesignTrace}
 use Rattle.nt_core.specs.Parts.{Parts}
+use Rattle.nt_core.proofs.Traces.{one_trace}
 use Rattle.el_design.specs.declared.designs.Design.{Design}
 use Rattle.el_design.specs.declared.designs.Net.{Net}
 use Rattle.el_design.specs.Plain as plain
@@ -14,11 +17,11 @@ use Rattle.el_design.proofs.Equations.{block_statement, wait_statement}
 use Rattle.xtc.specs.declared.source.Source.{Source}
 use Rattle.xtc.specs.declared.source.Step.{Step}
 use Rattle.xtc.specs.declared.source.Step.TheVariants.{Wait, Assign}
-use Rattle.xtc.specs.Compiled.{Ticks, IsCompiled}
+use Rattle.xtc.specs.Compiled.{HasOutside, TakesOneTick, Ticks, IsCompiled}
 use Rattle.xtc.specs.Flatten as flatten
 use Rattle.xtc.specs.Flatten.{whole_file, sum_of, process_of, design_of}
 use Rattle.xtc.specs.Form.{IsOfForm, IsInput, IsBody, var_widths, net_widths}
-use Rattle.xtc.specs.Machine.{HasBody, statements_of, is_wait}
+use Rattle.xtc.specs.Machine.{HasBody, Point, edge, is_wait, nets_of, pins_seen, seen, start_point, statements_of, trace_of}
 use Rattle.xtc.specs.Nodes as nodes
 use Rattle.xtc.specs.Source as source
 use Rattle.xtc.specs.Source.{IsSource, waits}
@@ -77,22 +80,35 @@ source_waits (Assign i s ∷ steps) h = go (is_wait (statement_of (flatten.state
     go true g = omega arith
     go false g = g
 
+-- each edge takes one tick
+
+quiet : (d : Flat) (body : List Statement) (rows : List (List Word)) (p : Point) → All TakesOneTick (trace_of d body rows p)
+quiet d body [] p = All-nil TakesOneTick
+quiet d body (row ∷ rows) p =
+    let next : Point = edge d body (nets_of d row) p in
+    All-cons TakesOneTick (seen d row next) (trace_of d body rows next) (record { pins = pins_seen d row next.store; calls = refl; ending = refl }) (quiet d body rows next)
+
 -- ---- the theorem
 
-pub compiled : (s : Source) → IsSource s → (d : Design) → d ≡ design_of s → (n : Parts) → (body : List Statement) × HasBody (flat_of d) body × Ticks d n body → waits s ≡ true → IsCompiled (flat_of (design_of s)) n
+pub compiled : (s : Source) → IsSource s → (d : Design) → d ≡ design_of s → (n : Parts) → HasOutside d n × (body : List Statement) × HasBody (flat_of d) body × Ticks d n body → waits s ≡ true → IsCompiled (design_of s) n
 compiled s is d d_is n made waiting =
-    subst (λ (x : Design). (body : List Statement) × HasBody (flat_of x) body × Ticks x n body → IsCompiled (flat_of (design_of s)) n) (sym d_is)
-    (λ built. compiled_at (design_of s) (of_form s is) n built.0 built.1 built.2 (some built.0 built.1)) made
+    subst (λ (x : Design). HasOutside x n × (body : List Statement) × HasBody (flat_of x) body × Ticks x n body → IsCompiled (design_of s) n) (sym d_is)
+    (λ built. compiled_at (design_of s) (of_form s is) n built.1 built.0 built.2 built.3 (some built.1 built.2)) made
   where
     some : (body : List Statement) → HasBody (flat_of (design_of s)) body → 1 ≤ nodes.waits body
     some body has = subst (λ (ss : List Statement). 1 ≤ nodes.waits ss) (sym (source_body s body has)) (source_waits s.steps waiting)
 
-    compiled_at : (d : Design) → IsOfForm d → (n : Parts) (body : List Statement) → HasBody (flat_of d) body → Ticks d n body → 1 ≤ nodes.waits body → IsCompiled (flat_of d) n
-    compiled_at d form n body has ticks some =
+    compiled_at : (d : Design) → IsOfForm d → (n : Parts) (body : List Statement) → HasOutside d n → HasBody (flat_of d) body → Ticks d n body → 1 ≤ nodes.waits body → IsCompiled d n
+    compiled_at d form n body outside has ticks some =
         let formal = formal_body d form body has in
         let none : NoValues (flat_of d) = no_values d.nets form.nets in
         record {
-          each_run = λ x is plays trace runs.
-              subst (IsDesignTrace n x) (sym (runs_follow (flat_of d) (var_widths d) (net_widths d) body none has formal some x is plays trace runs)) (follows d form n body has ticks formal some x is);
+          outside = outside;
+          each_run = λ x is plays trace runs t.
+              let traced : IsDesignTrace n x trace =
+              subst (IsDesignTrace n x) (sym (runs_follow (flat_of d) (var_widths d) (net_widths d) body none has formal some x is plays trace runs)) (follows d form n body has ticks formal some x is) in
+              (λ h. one_trace n x t trace h traced, λ e. subst (IsDesignTrace n x) (sym e) traced);
+          one_tick = λ x is t h.
+              subst (All TakesOneTick) (sym (one_trace n x t _ h (follows d form n body has ticks formal some x is))) (quiet (flat_of d) body x.rows (start_point (flat_of d) body));
           some_run = λ x is. some_run (flat_of d) (var_widths d) (net_widths d) body none has formal some x is;
         }

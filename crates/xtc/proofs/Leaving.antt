@@ -1,84 +1,148 @@
 -- What the program leaves, from what its parts leave.
-use Rattle.std.proofs.Common.{◌≡◌, ◌∙◌, ◌<◌, length, get_or, ◌⊎◌, inl, inr, refl, subst, sym, ap, ℕ, List, Option, Some, None}
-use Rattle.std.proofs.lemmas.Option.{slice_get-get_or}
-use Rattle.std.specs.Prelude.{codes, IfSome, IsSomeAnd, Result, Ok, Err, slice_get}
-use Rattle.xt_base.specs.Outside.{Held}
+use Rattle.std.proofs.Common.{◌≡◌, ◌∙◌, ◌++◌, [], ◌⊎◌, inl, inr, refl, subst, sym, ap, ℕ, List, Option, Some, None}
+use Rattle.std.proofs.lemmas.List.{append-nil}
+use Rattle.std.specs.Prelude.{codes, IfSome, IsSomeAnd, IsOkAnd, Result, Ok, Err, slice_get}
+use Rattle.xt_base.specs.Outside.{Held, appended, HasFault}
 use Rattle.xt_base.specs.declared.refusals.Refusal.{Refusal}
-use Rattle.xt_base.specs.declared.refusals.Fail.{Fail}
-use Rattle.xt_base.specs.declared.refusals.Fail.TheVariants as fails
-use Rattle.xt_base.specs.declared.refusals.Place.{Place}
-use Rattle.vl_pre.specs.Text.{Expanded, place_of}
+use Rattle.vl_pre.specs.Text.{Expanded}
 use Rattle.vl_pre.specs.Files.{Reading, Stop, Broken, source_expansion}
 use Rattle.vl_pre.specs.Faults.{IsText, refusal_of}
 use Rattle.vl_pre.specs.Faults as pre
-use Rattle.vl_lex.specs.Refusals.{IsRefused}
-use Rattle.vl_lex.specs.Tokens.{AreTokens}
-use Rattle.vl_lex.specs.declared.kinds.Token.{Token}
+use Rattle.nt_core.specs.Conditions.{IsNetlist}
 use Rattle.nt_core.specs.Parts.{Parts}
 use Rattle.nt_core.specs.Text.{text_of}
+use Rattle.xtc.specs.declared.source.Source.{Source}
 use Rattle.xtc.specs.declared.status.Status.{Status}
-use Rattle.xtc.specs.declared.status.Status.TheVariants.{Done, Memory, Usage, Refused, ReadFault, WriteFault}
-use Rattle.xtc.specs.Answer.{Stream, Leaves, IsLine, Tells, Puts, Took, Failed, Breaks, IsRefusal, IsBroken, expanded, no_token, no_wait, usage, refused, read_fault}
+use Rattle.xtc.specs.declared.status.Status.TheVariants.{Done, Memory, Usage, Refused, BadDesign, BadRecord, Differs, ReadFault, WriteFault}
+use Rattle.xtc.specs.Answer.{Stream, Says, IsSaid, FailsToWrite, output, note, Leaves, Tells, Puts, Took, Failed, Accepts, Breaks, IsAccepted, IsBroken, IsDesignOf, expanded, usage, refused, read_fault, done}
 use Rattle.xtc.specs.Command.{Request, Define, file_of, macros_of}
+use Rattle.xtc.specs.Compiled.{IsCompiled}
+use Rattle.xtc.specs.Flatten.{design_of}
 use Rattle.xtc.specs.Note.{refused_line}
 
-pub leaves_of_puts : (held : Option Held) (r : Request) (n : Parts) (out out' notes : Stream) (status : Status) → Puts (text_of n) out out' status → Leaves held (Some r) out out' notes notes status
-leaves_of_puts held r n out out' notes status (inl (done, took)) = subst (Leaves held (Some r) out out' notes notes) (sym done) (n, took, refl)
-leaves_of_puts held r n out out' notes status (inr (inl (fault, failed))) = subst (Leaves held (Some r) out out' notes notes) (sym fault) (inl (n, failed, refl))
-leaves_of_puts held r n out out' notes status (inr (inr (memory, same))) = subst (Leaves held (Some r) out out' notes notes) (sym memory) (same, refl)
+-- ---- streams
 
-took_line : (held : Option Held) (asked : Option Request) (explained : Status) (line : List ℕ) (out notes notes' : Stream) → IsLine held asked explained line → Took notes notes' line → Leaves held asked out out notes notes' explained
-took_line held _ _ _ out notes notes' usage took = (_, usage, took, refl)
-took_line held _ _ _ out notes notes' (refused r rule line name broken) took = (_, refused r rule line name broken, took, refl)
-took_line held _ _ _ out notes notes' (read_fault r) took = (_, read_fault r, took, refl)
+appended_nothing : (written : Option (List ℕ)) → written ≡ appended written []
+appended_nothing None = refl
+appended_nothing (Some bytes) = ap Some (sym (append-nil bytes))
 
-failed_line : (held : Option Held) (asked : Option Request) (explained : Status) (line : List ℕ) (out notes notes' : Stream) → IsLine held asked explained line → Failed notes notes' line → Leaves held asked out out notes notes' WriteFault
-failed_line held None explained line out notes notes' is failed = inr (explained, line, is, failed, refl)
-failed_line held (Some r) explained line out notes notes' is failed = inr (explained, line, is, failed, refl)
+-- nothing was put out
+took_nothing : (s : Stream) → Took s s []
+took_nothing s = record { written = appended_nothing s.written; calm = refl }
 
-pub leaves_of_tells : (held : Option Held) (asked : Option Request) (explained : Status) (line : List ℕ) (out notes notes' : Stream) (status : Status) → IsLine held asked explained line → Tells explained line notes notes' status → Leaves held asked out out notes notes' status
-leaves_of_tells held asked explained line out notes notes' status is (inl (same, took)) = subst (Leaves held asked out out notes notes') (sym same) (took_line held asked explained line out notes notes' is took)
-leaves_of_tells held asked explained line out notes notes' status is (inr (fault, failed)) = subst (Leaves held asked out out notes notes') (sym fault) (failed_line held asked explained line out notes notes' is failed)
+-- ---- a design
 
--- why a text has no tokens is why it is refused
-pub lex_refusal : (text : Expanded) (fail : Fail) → ((refusal : Refusal) → ◌≡◌ {A = Result (List Token) Fail} (Err fail) (Err (fails.Refused refusal)) → IsRefused text refusal) → IsRefusal text fail
-lex_refusal text (fails.Refused refusal) told = let is = told refusal refl in (subst (Breaks text) (sym is.is) (no_token is.at is.fails), is.named)
-lex_refusal text fails.Memory told = tt
+module _ (held : Option Held) (r : Request) (text : Expanded) (told : IfSome held (λ h. IsText text (expanded h r))) where
+  -- what is known of the text is known of the source
+  says_done : (n : Parts) → IsNetlist n → (source : Source) → Accepts text r source → IsCompiled (design_of source) n → Says held (Some r) Done (text_of n) []
+  says_done n is source accepts compiled = done r (text_of n) (of_held held told)
+    where
+      of_told : (told : Result Reading Stop) → IsText text told → IsDesignOf r (text_of n) told
+      of_told (Err stop) same = elim same [ ]
+      of_told (Ok reading) same = (source, subst (λ t. Accepts t r source) (sym same) accepts, record { netlist = n; is_netlist = is; text = refl; compiled = compiled })
 
--- a refusal of a text is one of its source
-pub refused_is_line : (held : Option Held) (r : Request) (text : Expanded) (refusal : Refusal) (name : List ℕ) → IfSome held (λ h. IsText text (expanded h r)) → Breaks text refusal → slice_get text.names refusal.place.file ≡ Some name
-    → IsLine held (Some r) Refused (refused_line refusal.rule.0 name refusal.place.line)
-refused_is_line held r text refusal name told broken named = refused r refusal.rule.0 refusal.place.line name (broken_of held told)
-  where
-    of_text : (told : Result Reading Stop) → IsText text told → IsBroken refusal.rule.0 refusal.place.line name told
-    of_text (Err stop) is = elim is [ ]
-    of_text (Ok reading) is = inr (refusal, subst (λ t. Breaks t refusal) (sym is) broken, refl, refl, subst (λ t. slice_get t.names refusal.place.file ≡ Some name) (sym is) named)
+      of_held : (held : Option Held) → IfSome held (λ h. IsText text (expanded h r)) → IfSome held (λ h. IsDesignOf r (text_of n) (expanded h r))
+      of_held None same = tt
+      of_held (Some h) same = of_told (expanded h r) same
 
-    broken_of : (held : Option Held) → IfSome held (λ h. IsText text (expanded h r)) → IfSome held (λ h. IsBroken refusal.rule.0 refusal.place.line name (expanded h r))
-    broken_of None is = is
-    broken_of (Some h) is = of_text (expanded h r) is
+  pub leaves_of_puts : (n : Parts) → IsNetlist n → (source : Source) × Accepts text r source × IsCompiled (design_of source) n → (out out' notes : Stream) (status : Status) → Puts (text_of n) out out' status → Leaves held (Some r) out out' notes notes status
+  leaves_of_puts n is (source, accepts, compiled) out out' notes status puts = by puts
+    where
+      says : Says held (Some r) Done (text_of n) []
+      says = says_done n is source accepts compiled
+
+      by : Puts (text_of n) out out' status → Leaves held (Some r) out out' notes notes status
+      by (inl (same, took)) = subst (Leaves held (Some r) out out' notes notes) (sym same) (record { text = text_of n; line = []; says = says; put = took; noted = took_nothing notes })
+      by (inr (inl (fault, failed))) = subst (Leaves held (Some r) out out' notes notes) (sym fault) (output (text_of n) says failed refl)
+      by (inr (inr (memory, same))) = subst (Leaves held (Some r) out out' notes notes) (sym memory) (same, refl)
+
+  -- a refusal of the text is one of the source
+  pub says_refused : (refusal : Refusal) (name : List ℕ) → Breaks text r refusal → slice_get text.names refusal.place.file ≡ Some name
+      → Says held (Some r) Refused [] (refused_line refusal.rule.0 name refusal.place.line)
+  says_refused refusal name broken named = refused r refusal.rule.0 refusal.place.line name (of_held held told)
+    where
+      of_told : (told : Result Reading Stop) → IsText text told → IsBroken r refusal.rule.0 refusal.place.line name told
+      of_told (Err stop) is = elim is [ ]
+      of_told (Ok reading) is = inr (refusal, subst (λ t. Breaks t r refusal) (sym is) broken, refl, refl, subst (λ t. slice_get t.names refusal.place.file ≡ Some name) (sym is) named)
+
+      of_held : (held : Option Held) → IfSome held (λ h. IsText text (expanded h r)) → IfSome held (λ h. IsBroken r refusal.rule.0 refusal.place.line name (expanded h r))
+      of_held None is = tt
+      of_held (Some h) is = of_told (expanded h r) is
+
+-- ---- a note
+
+-- what was said is the status of what was written whole
+took_all : (held : Option Held) (asked : Option Request) (status : Status) (text line : List ℕ) (out out' notes notes' : Stream) → Says held asked status text line → Took out out' text → Took notes notes' line
+    → Leaves held asked out out' notes notes' status
+took_all held _ _ _ _ out out' notes notes' usage put noted = record { text = []; line = codes "usage\n"; says = usage; put = put; noted = noted }
+took_all held _ _ _ _ out out' notes notes' (read_fault r) put noted = record { text = []; line = codes "read fault\n"; says = read_fault r; put = put; noted = noted }
+took_all held _ _ _ _ out out' notes notes' (refused r rule line name broken) put noted = record { text = []; line = refused_line rule name line; says = refused r rule line name broken; put = put; noted = noted }
+took_all held _ _ _ _ out out' notes notes' (done r bytes design) put noted = record { text = bytes; line = []; says = done r bytes design; put = put; noted = noted }
+
+pub leaves_of_tells : (held : Option Held) (asked : Option Request) (explained : Status) (line : List ℕ) (out notes notes' : Stream) (status : Status) → Says held asked explained [] line → Tells explained line notes notes' status
+    → Leaves held asked out out notes notes' status
+leaves_of_tells held asked explained line out notes notes' status says (inl (same, took)) = subst (Leaves held asked out out notes notes') (sym same) (took_all held asked explained [] line out out notes notes' says (took_nothing out) took)
+leaves_of_tells held asked explained line out notes notes' status says (inr (fault, failed)) = subst (Leaves held asked out out notes notes') (sym fault) (note explained line says failed refl)
 
 -- a refusal of the preprocessor
-pub pre_is_line : (held : Option Held) (r : Request) (file : List ℕ) (defines : List Define) (refusal : Refusal) (name : List ℕ) → file ≡ file_of r → defines ≡ macros_of r
-    → ((h : Held) → held ≡ Some h → pre.IsRefused refusal name (source_expansion h file defines)) → IsLine held (Some r) Refused (refused_line refusal.rule.0 name refusal.place.line)
-pre_is_line held r file defines refusal name same_file same_defines told = refused r refusal.rule.0 refusal.place.line name (broken_of held told)
+pub pre_says : (held : Option Held) (r : Request) (file : List ℕ) (defines : List Define) (refusal : Refusal) (name : List ℕ) → file ≡ file_of r → defines ≡ macros_of r
+    → ((h : Held) → held ≡ Some h → pre.IsRefused refusal name (source_expansion h file defines)) → Says held (Some r) Refused [] (refused_line refusal.rule.0 name refusal.place.line)
+pre_says held r file defines refusal name same_file same_defines told = refused r refusal.rule.0 refusal.place.line name (broken_of held told)
   where
     of_broken : (broken : Option Broken) → IsSomeAnd broken (λ b. (refusal ≡ refusal_of b) × (name ≡ b.name)) → IsSomeAnd broken (λ b. (b.rule ≡ refusal.rule.0) × (b.line ≡ refusal.place.line) × (b.name ≡ name))
     of_broken None is = elim is [ ]
     of_broken (Some b) is = (ap (λ (x : Refusal). x.rule.0) (sym is.0), ap (λ (x : Refusal). x.place.line) (sym is.0), sym is.1)
 
-    of_told : (told : Result Reading Stop) → pre.IsRefused refusal name told → IsBroken refusal.rule.0 refusal.place.line name told
+    of_told : (told : Result Reading Stop) → pre.IsRefused refusal name told → IsBroken r refusal.rule.0 refusal.place.line name told
     of_told (Ok reading) is = elim is [ ]
     of_told (Err stop) is = inl (of_broken stop.broken is)
 
     same : (h : Held) → source_expansion h file defines ≡ expanded h r
     same h = ap (λ f. source_expansion h f defines) same_file ∙ ap (source_expansion h (file_of r)) same_defines
 
-    broken_of : (held : Option Held) → ((h : Held) → held ≡ Some h → pre.IsRefused refusal name (source_expansion h file defines)) → IfSome held (λ h. IsBroken refusal.rule.0 refusal.place.line name (expanded h r))
+    broken_of : (held : Option Held) → ((h : Held) → held ≡ Some h → pre.IsRefused refusal name (source_expansion h file defines)) → IfSome held (λ h. IsBroken r refusal.rule.0 refusal.place.line name (expanded h r))
     broken_of None is = tt
-    broken_of (Some h) is = subst (IsBroken refusal.rule.0 refusal.place.line name) (same h) (of_told (source_expansion h file defines) (is h refl))
+    broken_of (Some h) is = subst (IsBroken r refusal.rule.0 refusal.place.line name) (same h) (of_told (source_expansion h file defines) (is h refl))
 
--- a process without a wait, whose first token stands in a list
-pub no_wait_at : (text : Expanded) (ts list : List Token) (i : ℕ) (d : Token) (place : Place) → AreTokens text.bytes ts → list ≡ ts → i < length ts → place ≡ place_of text (get_or list i d).start → Breaks text (record { rule = record { 0 = 61 }; place = place })
-no_wait_at text ts list i d place tokens same within at =
-    subst (λ p. Breaks text (record { rule = record { 0 = 61 }; place = p })) (sym (at ∙ ap (λ l. place_of text (get_or l i d).start) same)) (no_wait ts tokens i (get_or ts i d) (slice_get-get_or ts i d within))
+-- ---- a source that breaks no rule
+
+-- its expanded text is accepted
+pub accepted_text : (held : Option Held) (r : Request) (file : List ℕ) (defines : List Define) (text : Expanded) → file ≡ file_of r → defines ≡ macros_of r
+    → ((h : Held) → held ≡ Some h → IsText text (source_expansion h file defines)) → IsAccepted held (Some r) → (source : Source) × Accepts text r source
+accepted_text None r file defines text same_file same_defines told accepted = absurd accepted
+accepted_text (Some h) r file defines text same_file same_defines told accepted = of_told (expanded h r) (subst (IsText text) same (told h refl)) accepted
+  where
+    same : source_expansion h file defines ≡ expanded h r
+    same = ap (λ f. source_expansion h f defines) same_file ∙ ap (source_expansion h (file_of r)) same_defines
+
+    of_told : (told : Result Reading Stop) → IsText text told → IsOkAnd told (λ reading. (source : Source) × Accepts reading.text r source) → (source : Source) × Accepts text r source
+    of_told (Err stop) is found = absurd is
+    of_told (Ok reading) is found = (found.0, subst (λ t. Accepts t r found.0) is found.1)
+
+-- a fault of the files may come between
+pub or_read_fault : {A B C D : Type 0} → A ⊎ B ⊎ C → A ⊎ D ⊎ B ⊎ C
+or_read_fault (inl a) = inl a
+or_read_fault (inr more) = inr (inr more)
+
+-- ---- what the end says
+
+-- after Done the output took the text of a design of the source
+pub design_of_done : (held : Option Held) (words asked : Option Request) (out out' notes notes' : Stream) (status : Status) → words ≡ asked → Leaves held asked out out' notes notes' status → status ≡ Done
+    → IsSomeAnd words (λ r. (design : List ℕ) × (out'.written ≡ appended out.written design) × IfSome held (λ h. IsDesignOf r design (expanded h r)))
+design_of_done held words asked out out' notes notes' status same leaves is =
+    let said : IsSaid held asked out out' notes notes' Done = subst (Leaves held asked out out' notes notes') is leaves in
+    subst Design (sym same) (of_says asked Done said.text said.line said.says refl said.put.written)
+  where
+    Design : Option Request → Type 0
+    Design asked = IsSomeAnd asked (λ r. (design : List ℕ) × (out'.written ≡ appended out.written design) × IfSome held (λ h. IsDesignOf r design (expanded h r)))
+
+    of_says : (asked : Option Request) (status : Status) (text line : List ℕ) → Says held asked status text line → status ≡ Done → out'.written ≡ appended out.written text → Design asked
+    of_says _ _ _ _ usage is took = cc
+    of_says _ _ _ _ (read_fault r) is took = cc
+    of_says _ _ _ _ (refused r rule line name broken) is took = cc
+    of_says _ _ _ _ (done r bytes design) is took = (bytes, took, design)
+
+-- after WriteFault one of the streams counted a fault
+pub fault_of_leaves : (held : Option Held) (asked : Option Request) (out out' notes notes' : Stream) → Leaves held asked out out' notes notes' WriteFault → HasFault out.faults out'.faults ⊎ HasFault notes.faults notes'.faults
+fault_of_leaves held asked out out' notes notes' (output text says failed same) = inl failed.fault
+fault_of_leaves held asked out out' notes notes' (note status line says failed same) = inr failed.fault

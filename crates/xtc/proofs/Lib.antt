@@ -1,10 +1,10 @@
 pub mod Defines
+pub mod Judging
 pub mod Leaving
 pub mod Pieces
 pub mod Lists
 pub mod NumberTests
 pub mod NameBytes
-pub mod Ports
 pub mod Growing
 pub mod Sums
 pub mod Maps
@@ -24,3 +24,13 @@ pub mod SomeRun
 pub mod Compiling
 pub mod Shells
 pub mod OfForm
+pub mod Somes
+pub mod Spelled
+pub mod Middles
+pub mod Found
+pub mod FormNumbers
+pub mod FormPorts
+pub mod FormSums
+pub mod FormSteps
+pub mod FormModule
+pub mod FormLaws

@@ -1,7 +1,7 @@
 -- What the names of ports are made of.
-use Rattle.std.proofs.Common.{◌≡◌, ◌<◌, ◌≤◌, ℕ, List, [], ◌∷◌, Bool, true, false, ◌&&◌, subst, sym, arith}
-use Rattle.std.specs.List.{list_all, starts_with}
-use Rattle.std.specs.Prelude.{IsTrue, not, nat_eq, codes}
+use Rattle.std.proofs.Common.{◌≡◌, ◌<◌, ℕ, List, [], ◌∷◌, true, Result, Ok, Err, subst, sym, arith}
+use Rattle.std.specs.List.{list_all}
+use Rattle.std.specs.Prelude.{IsTrue, MatchResult, not}
 use Rattle.std.specs.Str.{IsAscii}
 use Rattle.std.proofs.lemmas.Bool.{and_parts}
 use Rattle.std.proofs.lemmas.Bool.Decides.{nat_tests}
@@ -27,3 +27,8 @@ word_small (c ∷ cs) h = let parts = and_parts (begins_word c) (list_all is_in_
 -- a port's name is ASCII text
 pub pin_name_is_ascii : (text word : List ℕ) → text ≡ word → IsTrue (is_pin_name word) → IsAscii text
 pin_name_is_ascii text word same h = subst IsAscii (sym same) (word_small word (and_parts (is_word word) (not (is_reserved word)) (and_parts (is_identifier word) _ h).0).0)
+
+-- what holds of a result's value
+pub ok_part : {A E : Type 0} (P : A → Type 0) (Q : E → Type 0) (result : Result A E) (x : A) → MatchResult result P Q → result ≡ Ok x → P x
+ok_part P Q (Ok y) x m e = let same : y ≡ x = cc in subst P same m
+ok_part P Q (Err f) x m e = cc

@@ -79,7 +79,7 @@ outputs_are d n m edge nodes nexts built vs =
     let count : length ps ≤ length (output_wires d) =
     omega (arith, length-map d.outputs (λ (p : shown.Pin). node_shown m p.from), length-map d.outputs (λ (p : shown.Pin). wire p.name (source_width d p.from))) in
     ap (λ (ds : List ℕ). map (value_at vs) (take (length n.outputs) (drop 1 ds))) built.drives
-    ∙ ap (λ (ws : List Wire). map (value_at vs) (take (length ws) ps)) built.outputs
+    ∙ ap (λ (ws : List Wire). map (value_at vs) (take (length ws) ps)) built.outside.outputs
     ∙ ap (map (value_at vs)) (take_all (length (output_wires d)) ps count)
 
 -- ---- all of it
@@ -90,7 +90,7 @@ pub ticking : (d : Design) (form : IsOfForm d) (n : Parts) (m : ValueMap) (edge 
     → HasWidth old state state_width → ((s : Sources) → node_value old s state ≡ get_or s.state.registers (length d.vars) (word state_width 0))
     → Steps d old nodes m state body nexts → Ticks d n body
 ticking d form n m edge state old nodes nexts body built map_is reads edge_is up state_is reads_state steps = record {
-  hosts = built.hosts;
+  hosts = built.outside.hosts;
   registers = built.registers;
   edges = λ s.
       ap (λ (ds : List ℕ). any_of (value_at (values n.nodes s) (slice_index ds 0))) built.drives

@@ -76,7 +76,7 @@ as_many n vs k (a ∷ agents) = ap (λ (xs : List (List Call)). [] ∷ xs) (as_m
 abbrev pub after_edge : Parts → List Word → Run → Run
 after_edge n row r = ticked n row (heard n row (edge_start r))
 
-one_tick : (n : Parts) (row : List Word) (r : Run) → edge_up n (design.seen n row (heard n row (edge_start r))) ≡ true → edge_within 1 n row 0 (edge_start r) ≡ Some (at_rest n row 1 (after_edge n row r))
+one_tick : (n : Parts) (row : List Word) (r : Run) → edge_up n (design.in_tick n row (heard n row (edge_start r))) ≡ true → edge_within 1 n row 0 (edge_start r) ≡ Some (at_rest n row 1 (after_edge n row r))
 one_tick n row r up =
     ap (λ (b : Bool). if b then Some (at_rest n row 1 (ticked n row (heard n row (edge_start r)))) else edge_within 0 n row 1 (ticked n row (heard n row (edge_start r)))) up
 

@@ -1,5 +1,5 @@
--- What the program leaves on its streams, by the status with which it ends. All of it is this project's own.
-use Rattle.std.specs.Prelude.{◌≡◌, ◌⊎◌, ◌<◌, ℕ, List, [], ◌∷◌, Option, Some, None, IfSome, IsSomeAnd, Result, IsOkAnd, IsErrAnd, length, slice_get, codes}
+-- What the program answers, and what it leaves on its streams. All of it is this project's own.
+use Rattle.std.specs.Prelude.{◌≡◌, ◌⊎◌, ◌<◌, ℕ, true, false, List, [], ◌∷◌, Option, Some, None, IfSome, IsSomeAnd, Result, Ok, IsOkAnd, IsErrAnd, length, slice_get, codes}
 use Rattle.xt_base.specs.Outside.{Held, appended, AppendsPrefix, HasFault}
 use Rattle.xt_base.specs.declared.refusals.Refusal.{Refusal}
 use Rattle.xt_base.specs.declared.refusals.Fail.{Fail}
@@ -9,12 +9,23 @@ use Rattle.vl_pre.specs.Files.{Reading, Stop, source_expansion}
 use Rattle.vl_pre.specs.Faults.{IsMiss, AskedInOrder, loads_of}
 use Rattle.vl_lex.specs.Tokens.{FailsAt, AreTokens}
 use Rattle.vl_lex.specs.declared.kinds.Token.{Token}
+use Rattle.vl_tree.specs.declared.modules.Tree.{Tree}
+use Rattle.vl_expr.specs.Lexemes.{lexemes_of, spellings_of}
+use Rattle.vl_tree.specs.Modules.{IsSource}
+use Rattle.vl_expr.specs.Refusals.{IsNoTree}
+use Rattle.nt_core.specs.Conditions.{IsNetlist}
 use Rattle.nt_core.specs.Parts.{Parts}
 use Rattle.nt_core.specs.Text.{text_of}
+use Rattle.el_design.specs.declared.designs.Design.{Design}
+use Rattle.xtc.specs.declared.source.Source.{Source}
 use Rattle.xtc.specs.declared.status.Status.{Status}
 use Rattle.xtc.specs.declared.status.Status.TheVariants.{Done, Memory, Usage, Refused, BadDesign, BadRecord, Differs, ReadFault, WriteFault}
-use Rattle.xtc.specs.Command.{Request, compile, file_of, macros_of}
+use Rattle.xtc.specs.Command.{Request, file_of, macros_of, top_of, clock_of}
+use Rattle.xtc.specs.Compiled.{IsCompiled}
+use Rattle.xtc.specs.Flatten.{design_of}
 use Rattle.xtc.specs.Note.{refused_line}
+use Rattle.xtc.specs.Source.{waits}
+use Rattle.xtc.specs.Tree.{IsForm}
 
 -- ---- the source
 
@@ -22,23 +33,92 @@ use Rattle.xtc.specs.Note.{refused_line}
 abbrev pub expanded : Held → Request → Result Reading Stop
 expanded h r = source_expansion h (file_of r) (macros_of r)
 
--- why a text is refused: no token begins at a byte, at the byte's place; or, with its tokens, it isn't of the form that is read, which is told of the
--- file as a whole, or its process has no wait, at the process's first token
-pub data Breaks (text : Expanded) : Refusal → Type 0 where
-  no_token : (at : ℕ) → FailsAt text.bytes at → Breaks text (record { rule = record { 0 = 14 }; place = place_of text at })
-  no_wait : (ts : List Token) → AreTokens text.bytes ts → (i : ℕ) (t : Token) → slice_get ts i ≡ Some t → Breaks text (record { rule = record { 0 = 61 }; place = place_of text t.start })
-  out_of_form : (ts : List Token) → AreTokens text.bytes ts → Breaks text (record { rule = record { 0 = 90 }; place = record { file = 0; line = 0; instance = 0 } })
+-- a tree of tokens of a text is at most so deep
+abbrev pub most_depth : ℕ
+most_depth = 128
+
+-- the tokens of a text and the tree of these tokens; a text has at most one of each
+abbrev pub IsTreeOf : Expanded → List Token → Tree → Type 0
+IsTreeOf text ts tree = IsSource (lexemes_of text.bytes ts) (spellings_of text.bytes ts) most_depth tree
+
+pub record HasTree (text : Expanded) (ts : List Token) (tree : Tree) : Type 0 where
+  pub are_tokens : AreTokens text.bytes ts
+  pub is_tree : IsTreeOf text ts tree
+
+-- a source of the form, with the module and the clock that the request names
+abbrev pub IsFormOf : Expanded → Request → List Token → Tree → Source → Type 0
+IsFormOf text r ts tree source = IsForm (lexemes_of text.bytes ts) (spellings_of text.bytes ts) (top_of r) (clock_of r) tree source
+
+-- a tree that is no source of the form is refused for the file as a whole
+abbrev pub not_of_form : Refusal
+not_of_form = record { rule = record { 0 = 90 }; place = record { file = 0; line = 0; instance = 0 } }
+
+-- a process without a wait is refused at its first token
+abbrev pub without_wait : Expanded → Token → Refusal
+without_wait text token = record { rule = record { 0 = 61 }; place = place_of text token.start }
+
+-- Why a text is refused, in this order: no token begins at a byte, at the byte's place; its tokens have no tree, at the place of a token; its tree is no source of the
+-- form, which is told of the file as a whole; its process has no wait, at the process's first token.
+pub data Breaks (text : Expanded) (r : Request) : Refusal → Type 0 where
+  no_token : (at : ℕ) → FailsAt text.bytes at → Breaks text r (record { rule = record { 0 = 14 }; place = place_of text at })
+  no_tree : (ts : List Token) → AreTokens text.bytes ts → ((tree : Tree) → IsTreeOf text ts tree → ⊥) → (refusal : Refusal) → IsNoTree text ts refusal → Breaks text r refusal
+  out_of_form : (ts : List Token) (tree : Tree) → HasTree text ts tree → ((source : Source) → IsFormOf text r ts tree source → ⊥) → Breaks text r not_of_form
+  no_wait : (ts : List Token) (tree : Tree) (source : Source) → HasTree text ts tree → IsFormOf text r ts tree source → waits source ≡ false →
+      (token : Token) → slice_get ts source.process ≡ Some token → Breaks text r (without_wait text token)
 
 -- such a refusal, whose place lies in a file of the text; or memory ran out
-abbrev pub IsRefusal : Expanded → Fail → Type 0
-IsRefusal text (fails.Refused refusal) = Breaks text refusal × (refusal.place.file < length text.names)
-IsRefusal text fails.Memory = Unit {0}
+abbrev pub IsRefusal : Expanded → Request → Fail → Type 0
+IsRefusal text r (fails.Refused refusal) = Breaks text r refusal × (refusal.place.file < length text.names)
+IsRefusal text r fails.Memory = Unit {0}
 
--- a rule that a source breaks, at a line of the file of a name: in its expansion, or else in its expanded text
-abbrev pub IsBroken : ℕ → ℕ → List ℕ → Result Reading Stop → Type 0
-IsBroken rule line name told =
+-- the first rule that a request's source breaks, at a line of the file of a name: in its expansion, or else in its expanded text
+abbrev pub IsBroken : Request → ℕ → ℕ → List ℕ → Result Reading Stop → Type 0
+IsBroken r rule line name told =
     IsErrAnd told (λ stop. IsSomeAnd stop.broken (λ b. (b.rule ≡ rule) × (b.line ≡ line) × (b.name ≡ name))) ⊎
-    IsOkAnd told (λ reading. (refusal : Refusal) × Breaks reading.text refusal × (refusal.rule.0 ≡ rule) × (refusal.place.line ≡ line) × (slice_get reading.text.names refusal.place.file ≡ Some name))
+    IsOkAnd told (λ reading. (refusal : Refusal) × Breaks reading.text r refusal × (refusal.rule.0 ≡ rule) × (refusal.place.line ≡ line) × (slice_get reading.text.names refusal.place.file ≡ Some name))
+
+-- a text is a source of the form whose process waits: it breaks no rule
+pub record Accepts (text : Expanded) (r : Request) (source : Source) : Type 0 where
+  pub tokens : List Token
+  pub tree : Tree
+  pub has_tree : HasTree text tokens tree
+  pub form : IsFormOf text r tokens tree source
+  pub waits : waits source ≡ true
+
+-- bytes are the text of a netlist that is compiled from a design
+pub record IsDesignText (d : Design) (bytes : List ℕ) : Type 0 where
+  pub netlist : Parts
+  pub is_netlist : IsNetlist netlist
+  pub text : bytes ≡ text_of netlist
+  pub compiled : IsCompiled d netlist
+
+-- a request's source breaks no rule, and bytes are the text of a netlist that is compiled from its flat design
+abbrev pub IsDesignOf : Request → List ℕ → Result Reading Stop → Type 0
+IsDesignOf r bytes told = IsOkAnd told (λ reading. (source : Source) × Accepts reading.text r source × IsDesignText (design_of source) bytes)
+
+-- ---- what is answered
+
+-- A status, with what is put out and the line that is noted. What is said of the source holds where the files tell what they hold.
+pub data Says (held : Option Held) : Option Request → Status → List ℕ → List ℕ → Type 0 where
+  usage : Says held None Usage [] (codes "usage\n")
+  read_fault : (r : Request) → Says held (Some r) ReadFault [] (codes "read fault\n")
+  refused : (r : Request) (rule line : ℕ) (name : List ℕ) → IfSome held (λ h. IsBroken r rule line name (expanded h r)) → Says held (Some r) Refused [] (refused_line rule name line)
+  done : (r : Request) (bytes : List ℕ) → IfSome held (λ h. IsDesignOf r bytes (expanded h r)) → Says held (Some r) Done bytes []
+
+-- the source of what was asked for comes to a name that isn't held, before a rule is broken
+abbrev pub IsMissed : Option Held → Option Request → Type 0
+IsMissed held None = ⊥
+IsMissed held (Some r) = IsSomeAnd held (λ h. IsMiss (expanded h r))
+
+-- it breaks a rule
+abbrev pub IsRefused : Option Held → Option Request → Type 0
+IsRefused held None = ⊥
+IsRefused held (Some r) = IsSomeAnd held (λ h. (rule line : ℕ) × (name : List ℕ) × IsBroken r rule line name (expanded h r))
+
+-- it breaks none
+abbrev pub IsAccepted : Option Held → Option Request → Type 0
+IsAccepted held None = ⊥
+IsAccepted held (Some r) = IsSomeAnd held (λ h. IsOkAnd (expanded h r) (λ reading. (source : Source) × Accepts reading.text r source))
 
 -- ---- the streams
 
@@ -68,35 +148,26 @@ Tells explained line old new status = ((status ≡ explained) × Took old new li
 abbrev pub Puts : List ℕ → Stream → Stream → Status → Type 0
 Puts text old new status = ((status ≡ Done) × Took old new text) ⊎ ((status ≡ WriteFault) × Failed old new text) ⊎ ((status ≡ Memory) × (new ≡ old))
 
--- ---- the answer
+-- what was said was written whole
+pub record IsSaid (held : Option Held) (asked : Option Request) (out out' notes notes' : Stream) (status : Status) : Type 0 where
+  pub text : List ℕ
+  pub line : List ℕ
+  pub says : Says held asked status text line
+  pub put : Took out out' text
+  pub noted : Took notes notes' line
 
--- the line that explains a status; none but these has one
-pub data IsLine (held : Option Held) : Option Request → Status → List ℕ → Type 0 where
-  usage : IsLine held None Usage (codes "usage\n")
-  refused : (r : Request) (rule line : ℕ) (name : List ℕ) → IfSome held (λ h. IsBroken rule line name (expanded h r)) → IsLine held (Some r) Refused (refused_line rule name line)
-  read_fault : (r : Request) → IsLine held (Some r) ReadFault (codes "read fault\n")
+-- what was to be said failed to be written: the text of a design on the output, with the notes as before, or a line on the notes, with the output as before
+pub data FailsToWrite (held : Option Held) (asked : Option Request) (out out' notes notes' : Stream) : Type 0 where
+  output : (text : List ℕ) → Says held asked Done text [] → Failed out out' text → notes' ≡ notes → FailsToWrite held asked out out' notes notes'
+  note : (status : Status) (line : List ℕ) → Says held asked status [] line → Failed notes notes' line → out' ≡ out → FailsToWrite held asked out out' notes notes'
 
--- a write failed: of the text of a design, with the notes as before, or of the line of a note, with the output as before
-abbrev pub FailsToWrite : Option Held → Option Request → Stream → Stream → Stream → Stream → Type 0
-FailsToWrite held asked out out' notes notes' =
-    ((n : Parts) × Failed out out' (text_of n) × (notes' ≡ notes)) ⊎
-    ((status : Status) × (line : List ℕ) × IsLine held asked status line × Failed notes notes' line × (out' ≡ out))
-
--- With Done the output took the text of a design, and the notes are as before. With a status that a line explains the notes took that line,
--- and the output is as before. Without memory both are as before.
+-- what stands on both streams at the end: without memory both are as before
 abbrev pub Leaves : Option Held → Option Request → Stream → Stream → Stream → Stream → Status → Type 0
-Leaves held None out out' notes notes' Done = ⊥
-Leaves held (Some request) out out' notes notes' Done = (n : Parts) × Took out out' (text_of n) × (notes' ≡ notes)
 Leaves held asked out out' notes notes' Memory = (out' ≡ out) × (notes' ≡ notes)
 Leaves held asked out out' notes notes' WriteFault = FailsToWrite held asked out out' notes notes'
-Leaves held asked out out' notes notes' status = (line : List ℕ) × IsLine held asked status line × Took notes notes' line × (out' ≡ out)
+Leaves held asked out out' notes notes' status = IsSaid held asked out out' notes notes' status
 
 -- the names that were asked for are the first of those that the source's expansion loads, in order; words that are no command ask for none
 abbrev pub Asks : Held → Option Request → List (List ℕ) → List (List ℕ) → Type 0
 Asks h None old new = new ≡ old
 Asks h (Some r) old new = AskedInOrder old new (loads_of (expanded h r))
-
--- where told, the source comes to a name that isn't held
-abbrev pub IsMissed : Option Held → Option Request → Type 0
-IsMissed held None = ⊥
-IsMissed held (Some r) = IsSomeAnd held (λ h. IsMiss (expanded h r))

@@ -66,3 +66,10 @@ file_of (compile file top clock defines) = file
 -- the macros that it defines
 abbrev pub macros_of : Request → List Define
 macros_of (compile file top clock defines) = defines
+
+-- the module that it compiles, and the clock
+abbrev pub top_of : Request → List ℕ
+top_of (compile file top clock defines) = top
+
+abbrev pub clock_of : Request → List ℕ
+clock_of (compile file top clock defines) = clock

@@ -1,7 +1,7 @@
 -- What a compiled netlist is made of, and what its ticks do. All of it is this project's own.
-use Rattle.std.specs.Prelude.{◌≡◌, ◌<◌, ◌≤◌, ◌^◌, ℕ, true, List, [], ◌∷◌, ◌++◌, map, length, get_or}
+use Rattle.std.specs.Prelude.{◌≡◌, ◌↔◌, ◌<◌, ◌≤◌, ◌^◌, ℕ, true, List, [], ◌∷◌, ◌++◌, map, length, get_or, All}
 use Rattle.xt_bits.specs.Stimulus.{Stimulus}
-use Rattle.xt_bits.specs.Trace.{Trace}
+use Rattle.xt_bits.specs.Trace.{Seen, Rested, Trace}
 use Rattle.xt_bits.specs.Word.{Word, word}
 use Rattle.nt_core.specs.DesignRun.{IsDesignTrace}
 use Rattle.nt_core.specs.declared.netlist.Node.{Node}
@@ -16,15 +16,22 @@ use Rattle.el_design.specs.Run.{IsStimulus, Runs}
 use Rattle.el_design.specs.Value.{Scene}
 use Rattle.el_design.specs.View.{flat_of}
 use Rattle.xtc.specs.declared.compile.expression.ValueMap.{ValueMap}
-use Rattle.xtc.specs.Form.{var_widths, output_wires}
+use Rattle.xtc.specs.Form.{var_widths, input_wires, output_wires}
 use Rattle.xtc.specs.Machine.{stretch, nets_of, pins_seen}
 use Rattle.xtc.specs.Nodes.{node_shown, words_of, read_registers, all_assigned, rest_at, waits, next_point, state_width}
+
+-- The outside of a netlist is the design's: its pins, by name and width and in their order, and the number of its processes. The form has no calls of the host.
+pub record HasOutside (d : Design) (n : Parts) : Type 0 where
+  pub inputs : n.inputs ≡ input_wires d
+  pub outputs : n.outputs ≡ output_wires d
+  pub processes : n.processes ≡ length d.procs
+  pub functions : n.functions ≡ []
+  pub hosts : n.hosts ≡ []
 
 -- the parts of the netlist of a design, with these nodes
 pub record IsBuilt (d : Design) (n : Parts) (m : ValueMap) (edge : ℕ) (nodes : List Node) (nexts : List ℕ) : Type 0 where
   pub with_nodes : n.nodes ≡ nodes
-  pub outputs : n.outputs ≡ output_wires d
-  pub hosts : n.hosts ≡ []
+  pub outside : HasOutside d n
   pub registers : n.registers ≡ map (λ v. v.start) d.vars ++ word state_width 0 ∷ []
   pub drives : n.drives ≡ edge ∷ map (λ p. node_shown m p.from) d.outputs
   pub with_nexts : n.nexts ≡ nexts
@@ -48,8 +55,16 @@ pub record Ticks (d : Design) (n : Parts) (body : List Statement) : Type 0 where
       → map (value_at (values n.nodes s)) n.nexts
       ≡ all_assigned (flat_of d) (scene_held d s) (stretch body (rest_at point body)) (held d s.state) ++ word state_width (next_point point body) ∷ []
 
--- The theorem of the compiler. Whatever the stimulus and the order of events: the design trace of the netlist, with the ticks of each edge, is the trace of each run of the
--- source's event queue; and each stimulus has a run.
-pub record IsCompiled (d : Flat) (n : Parts) : Type 0 where
-  pub each_run : (x : Stimulus) → IsStimulus d x → (plays : List (List Event)) (trace : Trace) → Runs d x plays trace → IsDesignTrace n x trace
-  pub some_run : (x : Stimulus) → IsStimulus d x → (plays : List (List Event)) × (trace : Trace) × Runs d x plays trace
+-- in an edge nothing is called, and it takes one tick
+pub record TakesOneTick (s : Seen) : Type 0 where
+  pub pins : List Word
+  pub calls : s.calls ≡ [] ∷ []
+  pub ending : s.ending ≡ Rested 1 pins
+
+-- The theorem of the compiler. Whatever the stimulus and the order of events: the netlist has one design trace, that of each run of the source's event queue, with the
+-- ticks of each edge, which is one tick each; each stimulus has a run; and the netlist's outside is the source's.
+pub record IsCompiled (d : Design) (n : Parts) : Type 0 where
+  pub outside : HasOutside d n
+  pub each_run : (x : Stimulus) → IsStimulus (flat_of d) x → (plays : List (List Event)) (trace : Trace) → Runs (flat_of d) x plays trace → (t : Trace) → IsDesignTrace n x t ↔ (t ≡ trace)
+  pub some_run : (x : Stimulus) → IsStimulus (flat_of d) x → (plays : List (List Event)) × (trace : Trace) × Runs (flat_of d) x plays trace
+  pub one_tick : (x : Stimulus) → IsStimulus (flat_of d) x → (t : Trace) → IsDesignTrace n x t → All TakesOneTick t

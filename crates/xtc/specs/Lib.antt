@@ -5,6 +5,8 @@ pub mod Answer
 pub mod Source
 pub mod Flatten
 pub mod Form
+pub mod Tree
+pub mod Reading
 pub mod Machine
 pub mod Nodes
 pub mod Compiled

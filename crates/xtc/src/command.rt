@@ -2,7 +2,7 @@
 ghost use Rattle.std.specs.Prelude.{◌≡◌, ◌&&◌, IfOk, MatchOption, Some, None, drop};
 ghost use Rattle.std.specs.List.{list_all};
 ghost use Rattle.xt_base.specs.Identifiers.{is_within};
-ghost use Rattle.xtc.specs.Command.{request_of, asked_by, file_of, macros_of, define_of, defines_of, is_macro_name, is_macro_text, begins_comment, has_comment};
+ghost use Rattle.xtc.specs.Command.{request_of, asked_by, file_of, macros_of, top_of, clock_of, define_of, defines_of, is_macro_name, is_macro_text, begins_comment, has_comment};
 
 use std::alloc::Global;
 use vl_pre::{Defines, is_directive};
@@ -60,6 +60,24 @@ impl<'a> Command<'a> {
     {
         match self {
             Command::Compile { file, .. } => file,
+        }
+    }
+
+    /// The module that is to be compiled.
+    pub fn top(&self) -> &'a str
+        ensures { result.now ≡ top_of (asked_by self.now) }
+    {
+        match self {
+            Command::Compile { top, .. } => top,
+        }
+    }
+
+    /// The clock of its processes.
+    pub fn clock(&self) -> &'a str
+        ensures { result.now ≡ clock_of (asked_by self.now) }
+    {
+        match self {
+            Command::Compile { clock, .. } => clock,
         }
     }
 }

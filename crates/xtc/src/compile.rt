@@ -7,7 +7,7 @@ ghost use Rattle.xt_bits.specs.Word.{word};
 ghost use Rattle.xtc.specs.Source.{IsSource, waits};
 ghost use Rattle.xtc.specs.Flatten.{design_of};
 ghost use Rattle.xtc.specs.Form.{IsOfForm, IsStatement, var_widths, net_widths};
-ghost use Rattle.xtc.specs.Compiled.{IsBuilt, IsCompiled, Ticks};
+ghost use Rattle.xtc.specs.Compiled.{HasOutside, IsBuilt, IsCompiled, Ticks};
 ghost use Rattle.xtc.specs.Machine.{HasBody, statements_of};
 ghost use Rattle.xtc.specs.Nodes.{AreSourced, Means, HasWidth, IsMap, register_widths};
 
@@ -31,10 +31,10 @@ use xt_bits::Bits;
 
 /// The netlist of a source.
 ///
-/// If its process waits, the netlist does what the source does, whatever the order of events.
+/// If its process waits, the netlist has the source's pins and does what the source does, whatever the order of events.
 pub fn compile(alloc: Global, source: &Source) -> Result<Netlist, NoMemory>
     requires { IsSource source.now }
-    ensures { IfOk result (λ n. waits source.now ≡ true → IsCompiled (flat_of (design_of source.now)) n) }
+    ensures { IfOk result (λ n. waits source.now ≡ true → IsCompiled (design_of source.now) n) }
 {
     let design = flatten(alloc, source)?;
     netlist(alloc, &design)
@@ -46,7 +46,7 @@ pub fn compile(alloc: Global, source: &Source) -> Result<Netlist, NoMemory>
 /// its k-th wait, from 1. Each edge of the clock takes one tick.
 fn netlist(alloc: Global, design: &Design) -> Result<Netlist, NoMemory>
     requires { IsOfForm design.now }
-    ensures { IfOk result (λ n. (body : List Statement) × HasBody (flat_of design.now) body × Ticks design.now n body) }
+    ensures { IfOk result (λ n. HasOutside design.now n × (body : List Statement) × HasBody (flat_of design.now) body × Ticks design.now n body) }
 {
     let mut builder = Builder::new(alloc);
     let map = value_map(alloc, design, &mut builder)?;

@@ -1,9 +1,8 @@
 //! A source of the form that is read today: a module with its ports and one process of waits and assignments.
-ghost use Rattle.std.specs.Prelude.{◌≡◌, ◌≢◌, ◌↔◌, IsTrue, Some, IfSome, IfNone, All, [], slice_get};
-ghost use Rattle.xtc.specs.Source.{widths};
+ghost use Rattle.std.specs.Prelude.{◌≡◌, bytes_eq};
+ghost use Rattle.xtc.specs.Reading.{found};
 
 use sqlite_items::Items;
-use std::alloc::Global;
 use xt_base::Name;
 use xt_bits::Bits;
 
@@ -56,25 +55,10 @@ pub enum Term {
     Number(Bits),
 }
 
-impl Source {
-    /// A module that has the clock and nothing else.
-    pub fn new(alloc: Global, clock: Name) -> Source
-        ensures { result ≡ record { clock = clock; inputs = []; outputs = []; process = 0; steps = [] } }
-    {
-        Source {
-            clock,
-            inputs: Items::new(alloc),
-            outputs: Items::new(alloc),
-            process: 0,
-            steps: Items::new(alloc),
-        }
-    }
-}
-
 impl Port {
     /// Whether the port has the name.
     pub fn is_named(&self, name: &[u8]) -> bool
-        ensures { IsTrue result ↔ (self.now.name ≡ name.now) }
+        ensures { result ≡ bytes_eq self.now.name name.now }
     {
         self.name.as_str().as_bytes() == name
     }
@@ -82,8 +66,7 @@ impl Port {
 
 /// The place and the width in bits of the port of that name.
 pub fn find(ports: &[Port], name: &[u8]) -> Option<(usize, u32)>
-    ensures there { IfSome result (λ port. slice_get (widths ports.now) port.0 ≡ Some port.1) }
-    ensures none { IfNone result (All (λ port. port.name ≢ name.now) ports.now) }
+    ensures { result ≡ found name.now ports.now }
 {
     for (place, port) in ports.iter().enumerate() {
         if port.is_named(name) {

@@ -1,306 +1,254 @@
 //! What no clause says: that calls succeed with ample memory, where the form's limits lie, and what a design does.
+ghost use Rattle.std.specs.Prelude.{◌≡◌, IfOk};
+ghost use Rattle.nt_core.specs.Fitting.{IsState};
+
 use crate::status::Status;
-use crate::top::{netlist, xtc};
+use crate::top::xtc;
 use nt_core::{Inputs, Netlist, State, evaluate, is_row, tick};
 use nt_read::read;
 use std::alloc::Global;
 use std::test::Fail;
-use vl_pre::Text;
-use xt_base::{Fail as Refused, MemFiles, MemSink, Words};
+use xt_base::{MemFiles, MemSink, Words};
 use xt_bits::Bits;
 
 const TWO_WAITS: &[u8] =
     b"module m(input clk, input [7:0] d, output reg [7:0] q); always begin @(posedge clk); q <= d; @(posedge clk); q <= q + 8'd1; end endmodule";
 
 const NO_WAIT: &[u8] =
-    b"module m(input clk, input [7:0] d, output reg [7:0] q); always begin q <= d; end endmodule";
+    b"module m(input clk, input [7:0] d, output reg [7:0] q);\n\n  always begin q <= d; end endmodule";
+
+const PARENTHESES: &[u8] =
+    b"module m(input clk, input d, output reg q); always begin @(posedge clk); q <= (d); end endmodule";
+
+const TASK: &[u8] =
+    b"module m(input clk, output reg q); task t; q <= 1'h1; endtask always begin @(posedge clk); t; end endmodule";
+
+const TWO_PROCESSES: &[u8] =
+    b"module m(input clk, output reg q); always begin @(posedge clk); end always begin @(posedge clk); end endmodule";
 
 /// The front of the design of `TWO_WAITS`, a hundred bytes.
 const FRONT: &[u8] =
-    b"// xtc design 1\n// processes 1\nmodule xtc_design (\n  input wire xtc_clk,\n  input wire [7:0] d,\n  outp";
+    b"// xtc design 1\n// processes 1\nmodule xtc_design (\n  input wire xtc_clk,\n  input wire [7:0] d,\n  out";
 
 const COMPILE: &[&str] = &["compile", "m1.v", "m", "clk"];
 
+/// The words for a file that includes `m1.v`.
+const INCLUDING: &[&str] = &["compile", "top.v", "m", "clk"];
+
 const AMPLE: usize = 100_000;
 
-/// A run of the program over files and streams in memory.
+/// Words and what stands under `m1.v`, with the status and the note.
+static ANSWERS: [(&[&str], &[u8], Status, &[u8]); 25] = [
+    (COMPILE, TWO_WAITS, Status::Done, b""),
+    (INCLUDING, TWO_WAITS, Status::Done, b""),
+    (
+        &["compile", "m1.v", "m", "clk", "FAST=", "SLOW=a + b"],
+        TWO_WAITS,
+        Status::Done,
+        b"",
+    ),
+    (&[], TWO_WAITS, Status::Usage, b"usage\n"),
+    (
+        &["compile", "m1.v", "m"],
+        TWO_WAITS,
+        Status::Usage,
+        b"usage\n",
+    ),
+    (
+        &["compile", "m1.v", "m", "clk", ""],
+        TWO_WAITS,
+        Status::Usage,
+        b"usage\n",
+    ),
+    (
+        &["Compile", "m1.v", "m", "clk"],
+        TWO_WAITS,
+        Status::Usage,
+        b"usage\n",
+    ),
+    (
+        &["compile", "m1.v", "m", "clk", "define=1"],
+        TWO_WAITS,
+        Status::Usage,
+        b"usage\n",
+    ),
+    (
+        &["compile", "m1.v", "m", "clk", "FAST=a // b"],
+        TWO_WAITS,
+        Status::Usage,
+        b"usage\n",
+    ),
+    (
+        &["compile", "m2.v", "m", "clk"],
+        TWO_WAITS,
+        Status::ReadFault,
+        b"read fault\n",
+    ),
+    (
+        COMPILE,
+        b"`include \"m2.v\"",
+        Status::ReadFault,
+        b"read fault\n",
+    ),
+    (COMPILE, b"\0\xff", Status::Refused, b"refused 10 m1.v 1\n"),
+    (
+        COMPILE,
+        b"\n`unknown",
+        Status::Refused,
+        b"refused 11 m1.v 2\n",
+    ),
+    (COMPILE, b"\n\n\\", Status::Refused, b"refused 14 m1.v 3\n"),
+    (
+        COMPILE,
+        b"module m(input clk);\n\nalways\n",
+        Status::Refused,
+        b"refused 20 m1.v 3\n",
+    ),
+    (
+        INCLUDING,
+        b"module m(input clk);\nend",
+        Status::Refused,
+        b"refused 20 m1.v 2\n",
+    ),
+    (COMPILE, NO_WAIT, Status::Refused, b"refused 61 m1.v 3\n"),
+    (INCLUDING, NO_WAIT, Status::Refused, b"refused 61 m1.v 3\n"),
+    (COMPILE, b"", Status::Refused, b"refused 90 m1.v 0\n"),
+    (INCLUDING, b"", Status::Refused, b"refused 90 top.v 0\n"),
+    (
+        &["compile", "m1.v", "n", "clk"],
+        TWO_WAITS,
+        Status::Refused,
+        b"refused 90 m1.v 0\n",
+    ),
+    (
+        &["compile", "m1.v", "m", "d"],
+        NO_WAIT,
+        Status::Refused,
+        b"refused 90 m1.v 0\n",
+    ),
+    (
+        COMPILE,
+        PARENTHESES,
+        Status::Refused,
+        b"refused 90 m1.v 0\n",
+    ),
+    (COMPILE, TASK, Status::Refused, b"refused 90 m1.v 0\n"),
+    (
+        COMPILE,
+        TWO_PROCESSES,
+        Status::Refused,
+        b"refused 90 m1.v 0\n",
+    ),
+];
+
+/// A run in which loads or writes fail.
 #[derive(Drop)]
-struct Run {
+struct Faulty {
     words: &'static [&'static str],
-    /// What stands under `m1.v`.
     source: &'static [u8],
     /// The loads that fail.
     loads: &'static [u64],
-    /// The bytes that fit on `out`.
-    room: usize,
-    /// The bytes that fit on `notes`.
-    notes_room: usize,
+    /// The bytes that fit on the output, and the writes to it that fail.
+    out: (usize, &'static [u64]),
+    /// The same of the notes.
+    notes: (usize, &'static [u64]),
     status: Status,
-    notes: &'static [u8],
-    /// The faults of the files, of `out` and of `notes`.
+    /// What stands on the output and on the notes at the end.
+    left: (&'static [u8], &'static [u8]),
+    /// The faults of the files, of the output and of the notes.
     faults: (u64, u64, u64),
 }
 
-static RUNS: [Run; 26] = [
-    Run {
-        words: COMPILE,
-        source: TWO_WAITS,
-        loads: &[],
-        room: AMPLE,
-        notes_room: AMPLE,
-        status: Status::Done,
-        notes: b"",
-        faults: (0, 0, 0),
-    },
-    Run {
-        words: &[],
-        source: TWO_WAITS,
-        loads: &[],
-        room: AMPLE,
-        notes_room: AMPLE,
-        status: Status::Usage,
-        notes: b"usage\n",
-        faults: (0, 0, 0),
-    },
-    Run {
-        words: &["compile", "m1.v", "m"],
-        source: TWO_WAITS,
-        loads: &[],
-        room: AMPLE,
-        notes_room: AMPLE,
-        status: Status::Usage,
-        notes: b"usage\n",
-        faults: (0, 0, 0),
-    },
-    Run {
-        words: &["compile", "m1.v", "m", "clk", ""],
-        source: TWO_WAITS,
-        loads: &[],
-        room: AMPLE,
-        notes_room: AMPLE,
-        status: Status::Usage,
-        notes: b"usage\n",
-        faults: (0, 0, 0),
-    },
-    Run {
-        words: &["Compile", "m1.v", "m", "clk"],
-        source: TWO_WAITS,
-        loads: &[],
-        room: AMPLE,
-        notes_room: AMPLE,
-        status: Status::Usage,
-        notes: b"usage\n",
-        faults: (0, 0, 0),
-    },
-    Run {
-        words: &[],
-        source: TWO_WAITS,
-        loads: &[],
-        room: AMPLE,
-        notes_room: 5,
-        status: Status::WriteFault,
-        notes: b"usage",
-        faults: (0, 0, 1),
-    },
-    Run {
-        words: &["compile", "m2.v", "m", "clk"],
-        source: TWO_WAITS,
-        loads: &[],
-        room: AMPLE,
-        notes_room: AMPLE,
-        status: Status::ReadFault,
-        notes: b"read fault\n",
-        faults: (0, 0, 0),
-    },
-    Run {
+static FAULTS: [Faulty; 9] = [
+    Faulty {
         words: COMPILE,
         source: TWO_WAITS,
         loads: &[0],
-        room: AMPLE,
-        notes_room: AMPLE,
+        out: (AMPLE, &[]),
+        notes: (AMPLE, &[]),
         status: Status::ReadFault,
-        notes: b"read fault\n",
+        left: (b"", b"read fault\n"),
         faults: (1, 0, 0),
     },
-    Run {
-        words: COMPILE,
-        source: TWO_WAITS,
-        loads: &[0],
-        room: AMPLE,
-        notes_room: 0,
-        status: Status::WriteFault,
-        notes: b"",
-        faults: (1, 0, 1),
-    },
-    Run {
-        words: COMPILE,
-        source: NO_WAIT,
-        loads: &[],
-        room: AMPLE,
-        notes_room: AMPLE,
-        status: Status::Refused,
-        notes: b"refused 61 m1.v 1\n",
-        faults: (0, 0, 0),
-    },
-    Run {
-        words: &["compile", "m1.v", "n", "clk"],
-        source: TWO_WAITS,
-        loads: &[],
-        room: AMPLE,
-        notes_room: AMPLE,
-        status: Status::Refused,
-        notes: b"refused 90 m1.v 0\n",
-        faults: (0, 0, 0),
-    },
-    Run {
-        words: &["compile", "m1.v", "m", "d"],
-        source: NO_WAIT,
-        loads: &[],
-        room: AMPLE,
-        notes_room: AMPLE,
-        status: Status::Refused,
-        notes: b"refused 90 m1.v 0\n",
-        faults: (0, 0, 0),
-    },
-    Run {
-        words: &["compile", "m1.v", "m", "clk", "FAST=", "SLOW=a + b"],
-        source: TWO_WAITS,
-        loads: &[],
-        room: AMPLE,
-        notes_room: AMPLE,
-        status: Status::Done,
-        notes: b"",
-        faults: (0, 0, 0),
-    },
-    Run {
-        words: &["compile", "m1.v", "m", "clk", "define=1"],
-        source: TWO_WAITS,
-        loads: &[],
-        room: AMPLE,
-        notes_room: AMPLE,
-        status: Status::Usage,
-        notes: b"usage\n",
-        faults: (0, 0, 0),
-    },
-    Run {
-        words: &["compile", "m1.v", "m", "clk", "FAST=a // b"],
-        source: TWO_WAITS,
-        loads: &[],
-        room: AMPLE,
-        notes_room: AMPLE,
-        status: Status::Usage,
-        notes: b"usage\n",
-        faults: (0, 0, 0),
-    },
-    Run {
-        words: COMPILE,
-        source: b"\n`unknown",
-        loads: &[],
-        room: AMPLE,
-        notes_room: AMPLE,
-        status: Status::Refused,
-        notes: b"refused 11 m1.v 2\n",
-        faults: (0, 0, 0),
-    },
-    Run {
-        words: COMPILE,
-        source: b"\n\n\\",
-        loads: &[],
-        room: AMPLE,
-        notes_room: AMPLE,
-        status: Status::Refused,
-        notes: b"refused 14 m1.v 3\n",
-        faults: (0, 0, 0),
-    },
-    Run {
-        words: COMPILE,
-        source: b"`include \"m2.v\"",
-        loads: &[],
-        room: AMPLE,
-        notes_room: AMPLE,
-        status: Status::ReadFault,
-        notes: b"read fault\n",
-        faults: (0, 0, 0),
-    },
-    Run {
-        words: &["compile", "top.v", "m", "clk"],
-        source: TWO_WAITS,
-        loads: &[],
-        room: AMPLE,
-        notes_room: AMPLE,
-        status: Status::Done,
-        notes: b"",
-        faults: (0, 0, 0),
-    },
-    Run {
-        words: &["compile", "top.v", "m", "clk"],
-        source: NO_WAIT,
-        loads: &[],
-        room: AMPLE,
-        notes_room: AMPLE,
-        status: Status::Refused,
-        notes: b"refused 61 m1.v 1\n",
-        faults: (0, 0, 0),
-    },
-    Run {
-        words: &["compile", "top.v", "m", "clk"],
+    Faulty {
+        words: INCLUDING,
         source: TWO_WAITS,
         loads: &[1],
-        room: AMPLE,
-        notes_room: AMPLE,
+        out: (AMPLE, &[]),
+        notes: (AMPLE, &[]),
         status: Status::ReadFault,
-        notes: b"read fault\n",
+        left: (b"", b"read fault\n"),
         faults: (1, 0, 0),
     },
-    Run {
+    Faulty {
         words: COMPILE,
-        source: b"",
-        loads: &[],
-        room: AMPLE,
-        notes_room: AMPLE,
-        status: Status::Refused,
-        notes: b"refused 90 m1.v 0\n",
-        faults: (0, 0, 0),
-    },
-    Run {
-        words: COMPILE,
-        source: b"\0\xff",
-        loads: &[],
-        room: AMPLE,
-        notes_room: AMPLE,
-        status: Status::Refused,
-        notes: b"refused 10 m1.v 1\n",
-        faults: (0, 0, 0),
-    },
-    Run {
-        words: COMPILE,
-        source: b"",
-        loads: &[],
-        room: AMPLE,
-        notes_room: 11,
+        source: TWO_WAITS,
+        loads: &[0],
+        out: (AMPLE, &[]),
+        notes: (0, &[]),
         status: Status::WriteFault,
-        notes: b"refused 90 ",
+        left: (b"", b""),
+        faults: (1, 0, 1),
+    },
+    Faulty {
+        words: COMPILE,
+        source: TWO_WAITS,
+        loads: &[],
+        out: (AMPLE, &[0]),
+        notes: (AMPLE, &[]),
+        status: Status::WriteFault,
+        left: (b"", b""),
+        faults: (0, 1, 0),
+    },
+    Faulty {
+        words: COMPILE,
+        source: TWO_WAITS,
+        loads: &[],
+        out: (100, &[]),
+        notes: (AMPLE, &[]),
+        status: Status::WriteFault,
+        left: (FRONT, b""),
+        faults: (0, 1, 0),
+    },
+    Faulty {
+        words: &[],
+        source: TWO_WAITS,
+        loads: &[],
+        out: (AMPLE, &[]),
+        notes: (5, &[]),
+        status: Status::WriteFault,
+        left: (b"", b"usage"),
         faults: (0, 0, 1),
     },
-    Run {
+    Faulty {
         words: COMPILE,
-        source: TWO_WAITS,
+        source: NO_WAIT,
         loads: &[],
-        room: 0,
-        notes_room: AMPLE,
+        out: (AMPLE, &[]),
+        notes: (AMPLE, &[0]),
         status: Status::WriteFault,
-        notes: b"",
-        faults: (0, 1, 0),
+        left: (b"", b""),
+        faults: (0, 0, 1),
     },
-    Run {
+    Faulty {
         words: COMPILE,
-        source: TWO_WAITS,
+        source: TASK,
         loads: &[],
-        room: 100,
-        notes_room: AMPLE,
+        out: (AMPLE, &[]),
+        notes: (AMPLE, &[2]),
         status: Status::WriteFault,
-        notes: b"",
-        faults: (0, 1, 0),
+        left: (b"", b"refused 90"),
+        faults: (0, 0, 1),
+    },
+    Faulty {
+        words: COMPILE,
+        source: b"endmodule",
+        loads: &[],
+        out: (AMPLE, &[]),
+        notes: (11, &[]),
+        status: Status::WriteFault,
+        left: (b"", b"refused 20 "),
+        faults: (0, 0, 1),
     },
 ];
 
@@ -312,36 +260,66 @@ fn words_of(alloc: Global, list: &[&str]) -> Result<Words, Fail> {
     Ok(words)
 }
 
+/// Files with a source under `m1.v`, and one that includes it.
+fn files_of(alloc: Global, source: &[u8], loads: &[u64]) -> Result<MemFiles, Fail> {
+    let mut files = MemFiles::new(alloc, loads)?;
+    files.put("m1.v", source)?;
+    files.put("top.v", b"`include \"m1.v\"\n")?;
+    Ok(files)
+}
+
 #[test]
 fn each_status_with_its_note(rt: HostRuntime) -> Result<(), Fail> {
     let alloc = rt.alloc();
-    for (i, run) in RUNS.iter().enumerate() {
-        let words = words_of(alloc, run.words)?;
-        let mut files = MemFiles::new(alloc, run.loads)?;
-        files.put("m1.v", run.source)?;
-        files.put("top.v", b"`include \"m1.v\"\n")?;
-        let mut out = MemSink::new(alloc, run.room, &[])?;
-        let mut notes = MemSink::new(alloc, run.notes_room, &[])?;
+    for (i, (words, source, expected, line)) in ANSWERS.iter().enumerate() {
+        let words = words_of(alloc, words)?;
+        let mut files = files_of(alloc, source, &[])?;
+        let mut out = MemSink::new(alloc, AMPLE, &[])?;
+        let mut notes = MemSink::new(alloc, AMPLE, &[])?;
         let status = xtc(alloc, &words, &mut files, &mut out, &mut notes);
-        assert!(rt; status == run.status, "{i}");
-        assert!(rt; notes.bytes() == run.notes, "{i}");
+        assert!(rt; status == *expected, "{i}");
+        assert!(rt; notes.bytes() == *line, "{i}");
+        assert!(rt; out.bytes().is_empty() == (status != Status::Done), "{i}");
         assert!(rt;
-            (files.faults(), out.faults(), notes.faults()) == run.faults,
+            out.bytes().is_empty() || out.bytes().starts_with(FRONT),
             "{i}"
         );
-        let is_tried = status == Status::Done || out.faults() > 0;
-        let front = if is_tried {
-            FRONT.len().min(run.room)
-        } else {
-            0
-        };
-        assert!(rt; out.bytes().get(..front) == FRONT.get(..front), "{i}");
         assert!(rt;
-            (out.bytes().len() > front) == (status == Status::Done),
+            (files.faults(), out.faults(), notes.faults()) == (0, 0, 0),
             "{i}"
         );
     }
     Ok(())
+}
+
+#[test]
+fn faults_of_files_and_streams(rt: HostRuntime) -> Result<(), Fail> {
+    let alloc = rt.alloc();
+    for (i, run) in FAULTS.iter().enumerate() {
+        let words = words_of(alloc, run.words)?;
+        let mut files = files_of(alloc, run.source, run.loads)?;
+        let mut out = MemSink::new(alloc, run.out.0, run.out.1)?;
+        let mut notes = MemSink::new(alloc, run.notes.0, run.notes.1)?;
+        let status = xtc(alloc, &words, &mut files, &mut out, &mut notes);
+        assert!(rt; status == run.status, "{i}");
+        assert!(rt; out.bytes() == run.left.0, "{i}");
+        assert!(rt; notes.bytes() == run.left.1, "{i}");
+        assert!(rt;
+            (files.faults(), out.faults(), notes.faults()) == run.faults,
+            "{i}"
+        );
+    }
+    Ok(())
+}
+
+/// What compiling the source leaves on the output, with ample room, and the status.
+fn compiled(alloc: Global, source: &[u8]) -> Result<(MemSink, Status), Fail> {
+    let words = words_of(alloc, COMPILE)?;
+    let mut files = files_of(alloc, source, &[])?;
+    let mut out = MemSink::new(alloc, AMPLE, &[])?;
+    let mut notes = MemSink::new(alloc, AMPLE, &[])?;
+    let status = xtc(alloc, &words, &mut files, &mut out, &mut notes);
+    Ok((out, status))
 }
 
 /// A source of this many one-bit assignments, with that much in front of them.
@@ -355,10 +333,10 @@ fn long_source(alloc: Global, front: &[u8], assignments: usize) -> Result<Vec<u8
     Ok(source)
 }
 
-/// A source that blanks bring to this length in bytes.
-fn padded(alloc: Global, len: usize) -> Result<Vec<u8>, Fail> {
+/// A source with this many blanks behind it.
+fn padded(alloc: Global, blanks: usize) -> Result<Vec<u8>, Fail> {
     let mut source = Vec::from_slice(alloc, TWO_WAITS)?;
-    while source.len() < len {
+    for _ in 0..blanks {
         source.push(b' ')?;
     }
     Ok(source)
@@ -377,86 +355,77 @@ fn wide_sum(alloc: Global, operators: usize) -> Result<Vec<u8>, Fail> {
     Ok(source)
 }
 
-/// The netlist of a source without directives, or why it has none.
-fn compiled(alloc: Global, source: &[u8]) -> Result<Result<Netlist, Refused>, Fail> {
-    if source.len() > AMPLE {
-        return Err(Fail::from("length"));
-    }
-    let text = Text::plain(alloc, "m1.v", source)?;
-    Ok(netlist(alloc, &text, "m", "clk"))
-}
-
 #[test]
 fn limits_of_the_form(rt: HostRuntime) -> Result<(), Fail> {
     let alloc = rt.alloc();
     let even = b"module m(input clk, input a, output reg q);always begin @(posedge clk);";
     let odd = b"module m(input clk, output reg q);always begin @(posedge clk);";
     let cases = [
-        (padded(alloc, 90_000)?, true),
+        (padded(alloc, 90_000)?, Status::Done),
         // 2,048 and 2,049 tokens
-        (long_source(alloc, even, 506)?, true),
-        (long_source(alloc, odd, 507)?, false),
-        (wide_sum(alloc, 16)?, true),
-        (wide_sum(alloc, 17)?, false),
+        (long_source(alloc, even, 506)?, Status::Done),
+        (long_source(alloc, odd, 507)?, Status::Refused),
+        (wide_sum(alloc, 16)?, Status::Done),
+        (wide_sum(alloc, 17)?, Status::Refused),
     ];
-    for (i, (source, is_compiled)) in cases.iter().enumerate() {
-        assert!(rt; compiled(alloc, source)?.is_ok() == *is_compiled, "{i}");
+    for (i, (source, expected)) in cases.iter().enumerate() {
+        let (_, status) = compiled(alloc, source)?;
+        assert!(rt; status == *expected, "{i}");
     }
     Ok(())
 }
 
-/// The value of an output pin in an edge with this row, and the state behind the edge's tick.
-fn edge(
+/// The value on an output port of a design with one input pin of eight bits, of which port 0 ends the edge.
+fn shown(
     alloc: Global,
     netlist: &Netlist,
-    state: State,
-    row: &[u64],
-) -> Result<(bool, u64, State), Fail> {
-    let mut pins = Vec::new(alloc);
-    for (wire, value) in netlist.inputs.as_slice().iter().zip(row) {
-        pins.push(Bits::new(wire.width, *value))?;
+    state: &State,
+    pin: u64,
+    port: usize,
+) -> Result<Option<u64>, Fail>
+    requires { IsState netlist.now state.now }
+{
+    let inputs = Inputs::silent(alloc, vec![in alloc; Bits::new(8, pin)]?);
+    if !is_row(netlist, inputs.row.as_slice()) {
+        return Ok(None);
     }
-    let inputs = Inputs::silent(alloc, pins);
+    let values = evaluate(alloc, netlist, &inputs, state)?;
+    let node = netlist.drives.get(port).copied();
+    Ok(
+        node.and_then(|node| values.get(node as usize))
+            .map(|value| value.value()),
+    )
+}
+
+/// The state after a tick with this value on the pin.
+fn ticked(alloc: Global, netlist: &Netlist, state: State, pin: u64) -> Result<State, Fail>
+    requires { IsState netlist.now state }
+    ensures { IfOk result (λ after. IsState netlist.now after) }
+{
+    let inputs = Inputs::silent(alloc, vec![in alloc; Bits::new(8, pin)]?);
     if !is_row(netlist, inputs.row.as_slice()) {
         return Err(Fail::from("row"));
     }
-    let state = tick(alloc, netlist, &inputs, state)?;
-    let values = evaluate(alloc, netlist, &inputs, &state)?;
-    let value = |port: usize| {
-        let node = netlist.drives.get(port).copied();
-        node.and_then(|n| values.get(n as usize)).map(|v| v.value())
-    };
-    let (Some(is_edge), Some(pin)) = (value(0), value(1)) else {
-        return Err(Fail::from("pins"));
-    };
-    Ok((is_edge == 1, pin, state))
+    Ok(tick(alloc, netlist, &inputs, state)?)
 }
 
-/// What is written for the source, with ample room.
-fn written(alloc: Global, source: &[u8]) -> Result<MemSink, Fail> {
-    let words = words_of(alloc, COMPILE)?;
-    let mut files = MemFiles::new(alloc, &[])?;
-    files.put("m1.v", source)?;
-    let mut out = MemSink::new(alloc, AMPLE, &[])?;
-    let mut notes = MemSink::new(alloc, AMPLE, &[])?;
-    match xtc(alloc, &words, &mut files, &mut out, &mut notes) {
-        Status::Done => Ok(out),
-        _ => Err(Fail::from("status")),
-    }
-}
-
+// Each edge takes one tick, in which port 0 is up; then the output stands on port 1.
 #[test]
 fn a_written_design_runs_from_wait_to_wait(rt: HostRuntime) -> Result<(), Fail> {
     let alloc = rt.alloc();
-    let out = written(alloc, TWO_WAITS)?;
-    assert!(rt; out.bytes() == written(alloc, TWO_WAITS)?.bytes());
+    let (out, _) = compiled(alloc, TWO_WAITS)?;
+    let (again, _) = compiled(alloc, TWO_WAITS)?;
+    assert!(rt; out.bytes() == again.bytes());
     let netlist = read(alloc, out.bytes())?;
-    let mut state = State::start(alloc, &netlist)?;
-    for (d, q) in [(0, 0), (5, 5), (9, 6), (7, 7)] {
-        let (is_edge, pin, after) = edge(alloc, &netlist, state, &[d])?;
-        assert!(rt; is_edge);
-        assert_eq!(rt; pin, q);
-        state = after;
-    }
+    let state = State::start(alloc, &netlist)?;
+    assert_eq!(rt; shown(alloc, &netlist, &state, 0, 0)?, Some(1));
+    let state = ticked(alloc, &netlist, state, 0)?;
+    assert_eq!(rt; shown(alloc, &netlist, &state, 0, 1)?, Some(0));
+    let state = ticked(alloc, &netlist, state, 5)?;
+    assert_eq!(rt; shown(alloc, &netlist, &state, 5, 1)?, Some(5));
+    let state = ticked(alloc, &netlist, state, 9)?;
+    assert_eq!(rt; shown(alloc, &netlist, &state, 9, 1)?, Some(6));
+    let state = ticked(alloc, &netlist, state, 7)?;
+    assert_eq!(rt; shown(alloc, &netlist, &state, 7, 1)?, Some(7));
     Ok(())
 }

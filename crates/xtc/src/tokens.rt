@@ -1,14 +1,16 @@
 //! The tokens of a source as the form's reader takes them.
-ghost use Rattle.std.specs.Prelude.{◌≡◌, ◌<◌, ◌≤◌, ◌+◌, length, IfOk, OnOk, All};
+ghost use Rattle.std.specs.Prelude.{◌≡◌, MatchResult, length, slice_get, option_copied};
+ghost use Rattle.vl_lex.specs.Tokens.{AreSpans};
+ghost use Rattle.vl_expr.specs.Lexemes.{spellings_of};
 ghost use Rattle.xtc.specs.declared.tokens.FormError.TheVariants as errors;
+ghost use Rattle.xtc.specs.Reading.{spells};
 
-use std::alloc::{AllocError, Global};
+use std::alloc::AllocError;
+use std::marker::Model;
 use thiserror::Error;
+use vl_expr::spelling;
 use vl_lex::Token;
 use xt_base::NoMemory;
-
-/// The greatest number of tokens of a source.
-pub const MAX_TOKENS: usize = 2_048;
 
 /// Why a source isn't read.
 #[derive(Clone, Copy, Debug, PartialEq, Eq, Error)]
@@ -35,30 +37,60 @@ impl From<AllocError> for FormError {
     }
 }
 
-/// The bytes of each token, of which there are no more than the form allows.
-pub fn spelled<'a>(
-    alloc: Global,
+/// What the tokens of a text spell.
+#[derive(Drop)]
+pub struct Spellings<'a> {
     text: &'a [u8],
-    tokens: &[Token],
-) -> Result<Vec<&'a [u8]>, FormError>
-    requires { All (λ t. (t.start < t.end) × (t.end ≤ length text.now)) tokens.now }
-    ensures { IfOk result (λ list. length list.items ≡ length tokens.now) }
-{
-    if tokens.len() > MAX_TOKENS {
-        return Err(FormError::OutOfForm);
-    }
-    let mut list = Vec::new(alloc);
-    for token in tokens {
-        add(&mut list, &text[token.start as usize..token.end as usize])?;
-    }
-    Ok(list)
+    tokens: &'a [Token],
 }
 
-fn add<'a>(list: &mut Vec<&'a [u8]>, token: &'a [u8]) -> Result<(), FormError>
-    ensures { OnOk result (length list.new.items ≡ length list.old.items + 1) }
-{
-    match list.push(token) {
-        Ok(()) => Ok(()),
-        Err(_) => Err(FormError::Memory),
+impl<'a> Model for Spellings<'a> {
+    ghost use Rattle.std.specs.Prelude.{ℕ, List, length};
+    ghost use Rattle.vl_lex.specs.Tokens.{AreSpans};
+    ghost use Rattle.vl_expr.specs.Lexemes.{spellings_of};
+
+    ghost Value = { List (List ℕ) };
+
+    ghost view = { λ s. spellings_of s.text.now s.tokens.now };
+
+    ghost invariant = { λ s. AreSpans s.tokens.now (length s.text.now) };
+}
+
+impl<'a> Spellings<'a> {
+    pub fn new(text: &'a [u8], tokens: &'a [Token]) -> Spellings<'a>
+        requires { AreSpans tokens.now (length text.now) }
+        ensures { result ≡ spellings_of text.now tokens.now }
+    {
+        Spellings { text, tokens }
+    }
+
+    /// What the token with this number spells.
+    fn get(&self, at: u32) -> Option<&'a [u8]>
+        ensures { option_copied result ≡ slice_get self.now at }
+    {
+        match self.tokens.get(at as usize) {
+            Some(token) => Some(spelling(self.text, token)),
+            None => None,
+        }
+    }
+
+    /// What the token with this number spells, or that there is none.
+    pub fn at(&self, at: u32) -> Result<&'a [u8], FormError>
+        ensures { MatchResult result (λ bytes. slice_get self.now at ≡ Some bytes.now) (λ error. (error ≡ errors.OutOfForm) × (slice_get self.now at ≡ None)) }
+    {
+        match self.get(at) {
+            Some(bytes) => Ok(bytes),
+            None => Err(FormError::OutOfForm),
+        }
+    }
+
+    /// Whether the token with this number is spelled so.
+    pub fn spells(&self, at: u32, bytes: &[u8]) -> bool
+        ensures { result ≡ spells self.now at bytes.now }
+    {
+        match self.get(at) {
+            Some(found) => found == bytes,
+            None => false,
+        }
     }
 }

@@ -1,12 +1,18 @@
 //! The top call: from the words of a command line to what is written and the status.
-ghost use Rattle.std.specs.Prelude.{◌≡◌, ◌≢◌, ◌≤◌, ◌<◌, ◌⊎◌, Option, Some, None, IfErr, IfOk, IfSome, length};
-ghost use Rattle.xt_base.specs.Outside.{Held, HasFault};
+ghost use Rattle.std.specs.Prelude.{◌≡◌, ◌≢◌, ◌≤◌, ◌<◌, ◌⊎◌, true, ℕ, List, Option, Some, None, Err, IfErr, IfOk, IfSome, IsErr, IsSomeAnd, length, slice_get};
+ghost use Rattle.xt_base.specs.Outside.{Held, HasFault, appended};
+ghost use Rattle.xt_base.specs.declared.refusals.Refusal.{Refusal};
 ghost use Rattle.vl_pre.specs.Faults.{IsText};
-ghost use Rattle.vl_lex.specs.Tokens.{AreTokens, AreSpans};
+ghost use Rattle.vl_lex.specs.Tokens.{AreSpans};
+ghost use Rattle.vl_lex.specs.declared.kinds.Token.{Token};
+ghost use Rattle.nt_core.specs.Conditions.{IsNetlist};
 ghost use Rattle.nt_core.specs.Text.{text_of};
-ghost use Rattle.xtc.specs.Answer.{on, expanded, Leaves, IsRefusal, Puts, Asks, IsMissed};
+ghost use Rattle.xtc.specs.declared.source.Source.{Source};
+ghost use Rattle.xtc.specs.Answer.{on, expanded, Leaves, Puts, Asks, Accepts, Breaks, HasTree, IsAccepted, IsDesignOf, IsFormOf, IsMissed, IsRefusal, IsRefused, not_of_form, without_wait};
 ghost use Rattle.xtc.specs.Command.{Request, request_of, asked_by};
-ghost use Rattle.xtc.specs.Source.{IsSource};
+ghost use Rattle.xtc.specs.Compiled.{IsCompiled};
+ghost use Rattle.xtc.specs.Flatten.{design_of};
+ghost use Rattle.xtc.specs.Source.{IsSource, is_wait, waits};
 
 use crate::command::Command;
 use crate::compile::compile;
@@ -14,12 +20,14 @@ use crate::note::Note;
 use crate::reader::read;
 use crate::source::{Source, Step};
 use crate::status::Status;
-use crate::tokens::{FormError, spelled};
+use crate::tokens::FormError;
 use nt_core::Netlist;
 use nt_write::{WriteEnd, write};
 use std::alloc::Global;
 use vl_lex::{Tokens, lex};
+use vl_parse::parse;
 use vl_pre::{PreFault, Text, expand};
+use vl_tree::Tree;
 use xt_base::{Fail, Files, NoMemory, Place, Refusal, Rule, Sink, Words};
 
 /// The source isn't of the form that is read today.
@@ -38,9 +46,22 @@ const WHOLE_FILE: Place = Place {
 /// Does what the words ask for: takes the source from `files`, writes the design to `out` and the line that explains a
 /// status to `notes`, and answers the status. `out` is written only after the last check.
 ///
-/// Usage comes exactly where the words are no command. Refused names a rule that the source breaks. ReadFault comes exactly
-/// where the source comes to a file that isn't held, and beside this only where `files` counted a fault; WriteFault only
-/// where a stream counted one. Memory is free.
+/// - `done`, the headline: after Done the words are a command, and what `out` took is the text of one netlist that is
+///   compiled from the design of the source. So for every stimulus the trace of every run of the source's event queue is
+///   the netlist's, each edge in one tick (`IsCompiled`).
+/// - `leaves`: what stands on both streams after each status. After Done that design and no note; after Usage, Refused and
+///   ReadFault no design and the one line that explains it, which for Refused names the first rule that the source breaks,
+///   with its file and line (for rule 20 that of some token); after WriteFault a prefix of such a text on the stream that counted a fault; after Memory
+///   nothing.
+/// - `usage`, `missed`, `refused`, `accepted`: which status comes for words that are no command, and for a source that
+///   comes to a file that isn't held, that breaks a rule, and that breaks none. By `leaves` and `read_fault` Usage, Refused
+///   and Done come nowhere else, where the files tell what they hold.
+/// - `read_fault`, `write_fault`, `fault`: these two statuses come only for such a file or where a fault was counted, and
+///   where one was counted on `files`, none but these two and Memory comes.
+/// - `asked`, `held`, `never_falls`: the files that are asked for are those that the source names, in order; they still
+///   hold what they held.
+///
+/// Want of memory is free: no clause says when Memory comes.
 pub fn xtc<F: Files, S: Sink>(
     alloc: Global,
     words: &Words,
@@ -48,10 +69,14 @@ pub fn xtc<F: Files, S: Sink>(
     out: &mut S,
     notes: &mut S,
 ) -> Status
+    ensures done { result ≡ Status.Done → IsSomeAnd (request_of words.now) (λ r. (design : List ℕ) × (S.written out.new ≡ appended (S.written out.old) design) × IfSome (F.held files.old) (λ h. IsDesignOf r design (expanded h r))) }
     ensures leaves { Leaves (F.held files.old) (request_of words.now) (on (S.written out.old) (S.faults out.old)) (on (S.written out.new) (S.faults out.new)) (on (S.written notes.old) (S.faults notes.old)) (on (S.written notes.new) (S.faults notes.new)) result }
     ensures usage { request_of words.now ≡ None → (result ≡ Status.Usage) ⊎ (result ≡ Status.WriteFault) ⊎ (result ≡ Status.Memory) }
     ensures missed { IsMissed (F.held files.old) (request_of words.now) → (result ≡ Status.ReadFault) ⊎ (result ≡ Status.WriteFault) ⊎ (result ≡ Status.Memory) }
+    ensures refused { IsRefused (F.held files.old) (request_of words.now) → (result ≡ Status.Refused) ⊎ (result ≡ Status.ReadFault) ⊎ (result ≡ Status.WriteFault) ⊎ (result ≡ Status.Memory) }
+    ensures accepted { IsAccepted (F.held files.old) (request_of words.now) → (result ≡ Status.Done) ⊎ (result ≡ Status.ReadFault) ⊎ (result ≡ Status.WriteFault) ⊎ (result ≡ Status.Memory) }
     ensures read_fault { result ≡ Status.ReadFault → IsMissed (F.held files.old) (request_of words.now) ⊎ HasFault (F.faults files.old) (F.faults files.new) }
+    ensures write_fault { result ≡ Status.WriteFault → HasFault (S.faults out.old) (S.faults out.new) ⊎ HasFault (S.faults notes.old) (S.faults notes.new) }
     ensures fault { F.faults files.old < F.faults files.new → (result ≡ Status.ReadFault) ⊎ (result ≡ Status.WriteFault) ⊎ (result ≡ Status.Memory) }
     ensures asked { (h : Held) → F.held files.old ≡ Some h → Asks h (request_of words.now) (F.asked files.old) (F.asked files.new) }
     ensures held { F.held files.new ≡ F.held files.old }
@@ -74,6 +99,8 @@ fn compile_file<F: Files, S: Sink>(
 ) -> Status
     ensures leaves { Leaves (F.held files.old) (Some (asked_by command.now)) (on (S.written out.old) (S.faults out.old)) (on (S.written out.new) (S.faults out.new)) (on (S.written notes.old) (S.faults notes.old)) (on (S.written notes.new) (S.faults notes.new)) result }
     ensures missed { IsMissed (F.held files.old) (Some (asked_by command.now)) → (result ≡ Status.ReadFault) ⊎ (result ≡ Status.WriteFault) ⊎ (result ≡ Status.Memory) }
+    ensures refused { IsRefused (F.held files.old) (Some (asked_by command.now)) → (result ≡ Status.Refused) ⊎ (result ≡ Status.ReadFault) ⊎ (result ≡ Status.WriteFault) ⊎ (result ≡ Status.Memory) }
+    ensures accepted { IsAccepted (F.held files.old) (Some (asked_by command.now)) → (result ≡ Status.Done) ⊎ (result ≡ Status.ReadFault) ⊎ (result ≡ Status.WriteFault) ⊎ (result ≡ Status.Memory) }
     ensures read_fault { result ≡ Status.ReadFault → IsMissed (F.held files.old) (Some (asked_by command.now)) ⊎ HasFault (F.faults files.old) (F.faults files.new) }
     ensures fault { F.faults files.old < F.faults files.new → (result ≡ Status.ReadFault) ⊎ (result ≡ Status.WriteFault) ⊎ (result ≡ Status.Memory) }
     ensures asked { (h : Held) → F.held files.old ≡ Some h → Asks h (Some (asked_by command.now)) (F.asked files.old) (F.asked files.new) }
@@ -81,11 +108,7 @@ fn compile_file<F: Files, S: Sink>(
     ensures never_falls { F.faults files.old ≤ F.faults files.new }
 {
     match expand(alloc, files, command.file(), command.defines()) {
-        Ok(text) => {
-            let Command::Compile { top, clock, .. } = command;
-            let compiled = netlist(alloc, &text, top, clock);
-            answer(alloc, &text, &compiled, out, notes)
-        }
+        Ok(text) => compile_text(alloc, &text, command, out, notes),
         Err(PreFault::Refused(refusal, name)) => {
             let note = Note::Refused {
                 rule: refusal.rule,
@@ -99,93 +122,21 @@ fn compile_file<F: Files, S: Sink>(
     }
 }
 
-/// The netlist of a source with this expanded text, or a rule that it breaks.
-pub fn netlist(alloc: Global, text: &Text, top: &str, clock: &str) -> Result<Netlist, Fail>
-    ensures { IfErr result (IsRefusal text.now) }
-{
-    let tokens = match lex(alloc, text) {
-        Ok(tokens) => tokens,
-        Err(fail) => return Err(fail),
-    };
-    let source = match source(alloc, text, &tokens, top, clock) {
-        Ok(source) => source,
-        Err(FormError::OutOfForm) => return Err(out_of_form(text, &tokens)),
-        Err(FormError::Memory) => return Err(Fail::Memory),
-    };
-    if !waits(&source) {
-        return Err(no_wait(text, &tokens, source.process));
-    }
-    match compile(alloc, &source) {
-        Ok(netlist) => Ok(netlist),
-        Err(NoMemory) => Err(Fail::Memory),
-    }
-}
-
-/// The module of the form that the tokens of a text are.
-fn source(
+/// Compiles an expanded text.
+fn compile_text<S: Sink>(
     alloc: Global,
     text: &Text,
-    tokens: &Tokens,
-    top: &str,
-    clock: &str,
-) -> Result<Source, FormError>
-    requires spans { AreSpans tokens.now (length text.now.bytes) }
-    ensures source { IfOk result IsSource }
-    ensures process { IfOk result (λ source. source.process < length tokens.now) }
-{
-    let spelled = spelled(alloc, text.bytes(), tokens.list())?;
-    read(alloc, &spelled, top, clock)
-}
-
-/// Whether the process waits.
-fn waits(source: &Source) -> bool {
-    source
-        .steps
-        .as_slice()
-        .iter()
-        .any(|step| matches!(step, Step::Wait))
-}
-
-/// The text isn't of the form that is read.
-fn out_of_form(text: &Text, tokens: &Tokens) -> Fail
-    requires { AreTokens text.now.bytes tokens.now }
-    ensures { IsRefusal text.now result }
-{
-    let _bytes = text.bytes();
-    let _tokens = tokens.list();
-    Fail::Refused(Refusal {
-        rule: OUT_OF_FORM,
-        place: WHOLE_FILE,
-    })
-}
-
-/// The process whose first token has this number has no wait.
-fn no_wait(text: &Text, tokens: &Tokens, process: usize) -> Fail
-    requires tokens { AreTokens text.now.bytes tokens.now }
-    requires spans { AreSpans tokens.now (length text.now.bytes) }
-    requires process { process < length tokens.now }
-    ensures { IsRefusal text.now result }
-{
-    Fail::Refused(Refusal {
-        rule: NO_WAIT,
-        place: text.place(tokens.list()[process].start),
-    })
-}
-
-/// Answers with the netlist's text or with the rule that the source breaks.
-fn answer<S: Sink>(
-    alloc: Global,
-    text: &Text,
-    compiled: &Result<Netlist, Fail>,
+    command: &Command,
     out: &mut S,
     notes: &mut S,
 ) -> Status
-    requires { IfErr compiled.now (IsRefusal text.now) }
-    ensures leaves { (held : Option Held) (r : Request) → IfSome held (λ h. IsText text.now (expanded h r)) → Leaves held (Some r) (on (S.written out.old) (S.faults out.old)) (on (S.written out.new) (S.faults out.new)) (on (S.written notes.old) (S.faults notes.old)) (on (S.written notes.new) (S.faults notes.new)) result }
+    ensures leaves { (held : Option Held) → IfSome held (λ h. IsText text.now (expanded h (asked_by command.now))) → Leaves held (Some (asked_by command.now)) (on (S.written out.old) (S.faults out.old)) (on (S.written out.new) (S.faults out.new)) (on (S.written notes.old) (S.faults notes.old)) (on (S.written notes.new) (S.faults notes.new)) result }
+    ensures refused { (refusal : Refusal) → Breaks text.now (asked_by command.now) refusal → (result ≡ Status.Refused) ⊎ (result ≡ Status.WriteFault) ⊎ (result ≡ Status.Memory) }
+    ensures accepted { (source : Source) → Accepts text.now (asked_by command.now) source → (result ≡ Status.Done) ⊎ (result ≡ Status.WriteFault) ⊎ (result ≡ Status.Memory) }
     ensures not_read { result ≢ Status.ReadFault }
 {
-    match compiled {
-        Ok(netlist) => deliver(alloc, netlist, out),
+    match netlist(alloc, text, command) {
+        Ok(netlist) => deliver(alloc, &netlist, out),
         Err(Fail::Memory) => Status::Memory,
         Err(Fail::Refused(refusal)) => {
             let note = Note::Refused {
@@ -198,10 +149,92 @@ fn answer<S: Sink>(
     }
 }
 
+/// The netlist of an expanded text, or the rule that it breaks.
+fn netlist(alloc: Global, text: &Text, command: &Command) -> Result<Netlist, Fail>
+    ensures compiled { IfOk result (λ n. (source : Source) × Accepts text.now (asked_by command.now) source × IsCompiled (design_of source) n) }
+    ensures refusal { IfErr result (IsRefusal text.now (asked_by command.now)) }
+    ensures refused { (refusal : Refusal) → Breaks text.now (asked_by command.now) refusal → IsErr result }
+    ensures accepted { (source : Source) → Accepts text.now (asked_by command.now) source → IfErr result (λ fail. fail ≡ Fail.Memory) }
+{
+    let tokens = lex(alloc, text)?;
+    let tree = parse(alloc, text, &tokens)?;
+    let source = source(alloc, text, &tokens, &tree, command)?;
+    Ok(compile(alloc, &source)?)
+}
+
+/// The source of the form that a tree is, if its process waits.
+fn source(
+    alloc: Global,
+    text: &Text,
+    tokens: &Tokens,
+    tree: &Tree,
+    command: &Command,
+) -> Result<Source, Fail>
+    requires tree { HasTree text.now tokens.now tree.now }
+    requires spans { AreSpans tokens.now (length text.now.bytes) }
+    ensures is_source { IfOk result IsSource }
+    ensures form { IfOk result (λ source. IsFormOf text.now (asked_by command.now) tokens.now tree.now source) }
+    ensures waits { IfOk result (λ source. waits source ≡ true) }
+    ensures refusal { IfErr result (IsRefusal text.now (asked_by command.now)) }
+    ensures sole { (source : Source) → IsFormOf text.now (asked_by command.now) tokens.now tree.now source → IfOk result (λ found. found ≡ source) }
+    ensures accepted { (source : Source) → IsFormOf text.now (asked_by command.now) tokens.now tree.now source → waits source ≡ true → IfErr result (λ fail. fail ≡ Fail.Memory) }
+{
+    let source = match read(alloc, text, tokens, tree, command.top(), command.clock()) {
+        Ok(source) => source,
+        Err(FormError::OutOfForm) => return Err(Fail::Refused(out_of_form(text))),
+        Err(FormError::Memory) => return Err(Fail::Memory),
+    };
+    if waits(&source) {
+        Ok(source)
+    } else {
+        Err(Fail::Refused(no_wait(text, tokens, source.process)))
+    }
+}
+
+/// Whether the process waits.
+fn waits(source: &Source) -> bool
+    ensures { result ≡ waits source.now }
+{
+    source.steps.as_slice().iter().any(|step| is_wait(step))
+}
+
+fn is_wait(step: &Step) -> bool
+    ensures { result ≡ is_wait step.now }
+{
+    matches!(step, Step::Wait)
+}
+
+/// The text isn't of the form that is read.
+fn out_of_form(text: &Text) -> Refusal
+    ensures refusal { result ≡ not_of_form }
+    ensures named { result.place.file < length text.now.names }
+{
+    let _bytes = text.bytes();
+    Refusal {
+        rule: OUT_OF_FORM,
+        place: WHOLE_FILE,
+    }
+}
+
+/// The process whose first token has this number has no wait.
+fn no_wait(text: &Text, tokens: &Tokens, process: usize) -> Refusal
+    requires spans { AreSpans tokens.now (length text.now.bytes) }
+    requires process { process < length tokens.now }
+    ensures refusal { (token : Token) → slice_get tokens.now process ≡ Some token → result ≡ without_wait text.now token }
+    ensures named { result.place.file < length text.now.names }
+{
+    Refusal {
+        rule: NO_WAIT,
+        place: text.place(tokens.list()[process].start),
+    }
+}
+
 /// Writes the text of a design.
 fn deliver<S: Sink>(alloc: Global, netlist: &Netlist, out: &mut S) -> Status
-    ensures { Puts (text_of netlist.now) (on (S.written out.old) (S.faults out.old)) (on (S.written out.new) (S.faults out.new)) result }
+    ensures netlist { IsNetlist netlist.now }
+    ensures puts { Puts (text_of netlist.now) (on (S.written out.old) (S.faults out.old)) (on (S.written out.new) (S.faults out.new)) result }
 {
+    let _nodes = &netlist.nodes;
     match write(alloc, netlist, out) {
         WriteEnd::Written => Status::Done,
         WriteEnd::WriteFault => Status::WriteFault,

@@ -25,8 +25,13 @@ returns c =
     let is = c.finish.ensures in
     record {
       with_nodes = ap (λ (n : Parts). n.nodes) is;
-      outputs = ap (λ (n : Parts). n.outputs) is ∙ c.in_ok-outputs.ensures;
-      hosts = ap (λ (n : Parts). n.hosts) is ∙ c.new-2.ensures.items;
+      outside = record {
+        inputs = ap (λ (n : Parts). n.inputs) is ∙ c.in_ok-inputs.ensures;
+        outputs = ap (λ (n : Parts). n.outputs) is ∙ c.in_ok-outputs.ensures;
+        processes = ap (λ (n : Parts). n.processes) is ∙ c.in_ok-processes.ensures ∙ c.len.ensures;
+        functions = ap (λ (n : Parts). n.functions) is ∙ c.new.ensures.items;
+        hosts = ap (λ (n : Parts). n.hosts) is ∙ c.new-2.ensures.items;
+      };
       registers = ap (λ (n : Parts). n.registers) is ∙ c.in_ok-registers.ensures.values;
       drives = ap (λ (n : Parts). n.drives) is ∙ c.in_ok-drives.ensures;
       with_nexts = ap (λ (n : Parts). n.nexts) is;

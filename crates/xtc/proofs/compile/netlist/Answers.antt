@@ -2,7 +2,7 @@ use Rattle.std.proofs.Common.{ℕ, List, get_or, ap, ◌∙◌}
 use Rattle.xt_bits.specs.Word.{word}
 use Rattle.el_design.specs.Plain.{Statement}
 use Rattle.el_design.specs.View.{flat_of}
-use Rattle.xtc.specs.Compiled.{Ticks}
+use Rattle.xtc.specs.Compiled.{HasOutside, Ticks}
 use Rattle.xtc.specs.Machine.{HasBody, statements_of}
 use Rattle.xtc.specs.Nodes.{state_width}
 use Rattle.xtc.proofs.Growing.{width_grows, map_grows, extends_trans, means_still}
@@ -28,7 +28,8 @@ returns c =
     let state_edge = c.in_ok-edge.ensures.extends in
     let after_map = extends_trans c.args.design.now _ _ _ c.in_ok-state.ensures.extends state_edge in
     let state = means_still _ _ _ _ c.in_ok-state.state state_width _ c.in_ok-state.ensures state_edge in
-    if_ok _ (λ n. (body : List Statement) × HasBody (flat_of c.args.design.now) body × Ticks c.args.design.now n body) _ (λ n built. (
+    if_ok _ (λ n. HasOutside c.args.design.now n × (body : List Statement) × HasBody (flat_of c.args.design.now) body × Ticks c.args.design.now n body) _ (λ n built. (
+      built.outside,
       statements_of c.body.result.now,
       c.body.ensures.body,
       ticking c.args.design.now c.requires n c.in_ok-map.map c.in_ok-edge.edge c.in_ok-state.state c.always_up.new.builder c.step.new.builder c.in_ok-nexts.nexts.items (statements_of c.body.result.now) built

@@ -1,0 +1,15 @@
+use Rattle.vl_expr.specs.Lexemes.{lexemes_of, spellings_of}
+use Rattle.xtc.proofs.FormLaws.{told_form, told_only, told_source}
+use Rattle.xtc.proofs.reader.read.Goals as goal
+
+pub returns-clause-form : goal.returns-clause-form
+returns-clause-form c =
+    told_form (lexemes_of c.args.text.now.bytes c.args.tokens.now) (spellings_of c.args.text.now.bytes c.args.tokens.now) c.args.top.now c.args.clock.now c.args.tree.now c.told.result c.told.ensures
+
+pub returns-clause-only : goal.returns-clause-only
+returns-clause-only c =
+    told_only (lexemes_of c.args.text.now.bytes c.args.tokens.now) (spellings_of c.args.text.now.bytes c.args.tokens.now) c.args.top.now c.args.clock.now c.args.tree.now c.told.result c.told.ensures
+
+pub returns-clause-source : goal.returns-clause-source
+returns-clause-source c =
+    told_source (lexemes_of c.args.text.now.bytes c.args.tokens.now) (spellings_of c.args.text.now.bytes c.args.tokens.now) c.args.top.now c.args.clock.now c.args.tree.now c.told.result c.told.ensures
