@@ -1,5 +1,7 @@
 //! A plain simulator whose answers are the definitions: slow, and for tests. It gives up at a design that isn't
 //! sound, and where its budget is used up.
+#![tactic(auto)]
+
 mod acts;
 mod edges;
 mod events;
