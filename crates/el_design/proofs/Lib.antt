@@ -40,9 +40,11 @@ pub mod OrderFollows
 pub mod Bodies
 pub mod Places
 pub mod SizeRows
+pub mod RuleRows
 pub mod Ways
 pub mod WaysPuts
 pub mod WaysFound
 pub mod WaysBack
 pub mod Counts
+pub mod OneSize
 pub mod FunctionEnds

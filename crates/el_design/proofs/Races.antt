@@ -17,7 +17,7 @@ abbrev shows : ℕ → Trace
 shows n = record { calls = [] ∷ [] ∷ []; ending = Rested 1 (word 8 n ∷ []) } ∷ []
 
 -- two processes write one variable: `initial x = 1;` and `initial x = 2;`
-abbrev two_write : Flat
+abbrev pub two_write : Flat
 two_write = design (reg 8 ∷ []) [] (initial (assign 0 (byte 1)) ∷ initial (assign 0 (byte 2)) ∷ []) [] (0 ∷ [])
 
 two_write_first : trace_of two_write 2 ([] ∷ []) (none_for 2) ≡ shows 2
@@ -29,7 +29,7 @@ unfolding words.number_of words.bit_of operators.selected_bit operators.turned_b
 two_write_second = refl
 
 -- what is written by blocking is read by another process: `initial x = 1;` and `initial y = x;`
-abbrev reads_across : Flat
+abbrev pub reads_across : Flat
 reads_across = design (reg 8 ∷ reg 8 ∷ []) [] (initial (assign 0 (byte 1)) ∷ initial (assign 1 (Variable (u 8) 0)) ∷ []) [] (1 ∷ [])
 
 reads_across_first : trace_of reads_across 2 ([] ∷ []) (none_for 2) ≡ shows 1
@@ -41,7 +41,7 @@ unfolding words.number_of words.bit_of operators.selected_bit operators.turned_b
 reads_across_second = refl
 
 -- the same through a net: `assign n = x;`, `initial x = 1;` and `initial y = n;`
-abbrev over_net : Flat
+abbrev pub over_net : Flat
 over_net = design (reg 8 ∷ reg 8 ∷ []) (record (input 8) { value = Some (Variable (u 8) 0) } ∷ []) (initial (assign 0 (byte 1)) ∷ initial (assign 1 (NetValue (u 8) 1)) ∷ []) [] (1 ∷ [])
 
 over_net_first : trace_of over_net 1 ([] ∷ []) (none_for 2) ≡ shows 1

@@ -42,19 +42,19 @@ branching_s often = refl
 abbrev i_of : ℕ → Expr
 i_of v = Variable (signed 32) v
 
-abbrev loop : ℕ → ℕ → Statement → Statement
+abbrev pub loop : ℕ → ℕ → Statement → Statement
 loop v n body = For (at 1) v (int 0) (Binary (u 1) op.Lt (i_of v) (int n)) (Binary (signed 32) op.Add (i_of v) (int 1)) body
 
-abbrev more_by_one : Statement
+abbrev pub more_by_one : Statement
 more_by_one = assign 0 (Binary (u 32) op.Add (Resize (u 32) (Variable (u 16) 0)) (int 1))
 
-abbrev looping : Statement → Flat
+abbrev pub looping : Statement → Flat
 looping s = design (reg 16 ∷ reg 32 ∷ reg 32 ∷ []) [] (initial s ∷ []) [] (0 ∷ [])
 
 abbrev inner : Statement
 inner = loop 2 150 more_by_one
 
-abbrev outer : Statement
+abbrev pub outer : Statement
 outer = loop 1 150 inner
 
 -- where an unrolled loop of so many turns counts one more
@@ -80,12 +80,12 @@ add_one v = Binary (signed 32) op.Add (i_of v) (int 1)
 abbrev below : ℕ → ℕ → Expr
 below v n = Binary (u 1) op.Lt (i_of v) (int n)
 
-stored_next : (k : ℕ) → k ≤ 1024 → select_of (add_of (word 32 k) (word 32 1)) (pos 0) 32 ≡ word 32 (suc k)
+stored_next : (k : ℕ) → k ≤ 1025 → select_of (add_of (word 32 k) (word 32 1)) (pos 0) 32 ≡ word 32 (suc k)
 stored_next k h =
     let same : ((k % 2 ^ 32 + 1) % 2 ^ 32) / 2 ^ 0 ≡ suc k = omega (arith, h) in
     select_number (add_of (word 32 k) (word 32 1)) 0 32 ∙ ap (word 32) same
 
-integer_is : (k : ℕ) → k ≤ 1024 → integer_of (word 32 k) true ≡ pos k
+integer_is : (k : ℕ) → k ≤ 1025 → integer_of (word 32 k) true ≡ pos k
 integer_is k h =
     let small : k % 2 ^ 32 ≡ k = omega (arith, h) in
     let positive : nat_le (2 ^ 31) (k % 2 ^ 32) ≡ false = grind (arith, nat_tests, small, h) in
@@ -97,7 +97,7 @@ truth_is false = refl
 
 module _ (s : Statement) where
   -- the store after k turns
-  turned_is : (b : Bool) (k : ℕ) → k ≤ 1024 → turned (looping s) (index b) (int 0) (add_one (index b)) k ≡ with_index b (word 32 k)
+  turned_is : (b : Bool) (k : ℕ) → k ≤ 1025 → turned (looping s) (index b) (int 0) (add_one (index b)) k ≡ with_index b (word 32 k)
   turned_is true zero h = ap (with_index true) (select_number (word 32 0) 0 32)
   turned_is false zero h = ap (with_index false) (select_number (word 32 0) 0 32)
   turned_is true (suc k) h =
@@ -108,7 +108,7 @@ module _ (s : Statement) where
       ∙ ap (with_index false) (stored_next k (omega (arith, h)))
 
   -- the test at the turn k
-  test_is : (b : Bool) (n k : ℕ) → n ≤ 1024 → k ≤ 1024 → goes_on (looping s) (index b) (int 0) (below (index b) n) (add_one (index b)) k ≡ nat_lt k n
+  test_is : (b : Bool) (n k : ℕ) → n ≤ 1025 → k ≤ 1025 → goes_on (looping s) (index b) (int 0) (below (index b) n) (add_one (index b)) k ≡ nat_lt k n
   test_is true n k m h =
       ap (λ st. is_up (value (looping s) (record (fixed (looping s)) { store = st }) (below 1 n))) (turned_is true k h)
       ∙ ap (λ x. is_up (truth (int_lt x (integer_of (word 32 n) true)))) (integer_is k h) ∙ ap (λ x. is_up (truth (int_lt (pos k) x))) (integer_is n m) ∙ truth_is (nat_lt k n)
@@ -117,7 +117,7 @@ module _ (s : Statement) where
       ∙ ap (λ x. is_up (truth (int_lt x (integer_of (word 32 n) true)))) (integer_is k h) ∙ ap (λ x. is_up (truth (int_lt (pos k) x))) (integer_is n m) ∙ truth_is (nat_lt k n)
 
   -- it takes its turns, where its body leaves the index alone
-  takes_turns : (b : Bool) (n : ℕ) (body : Statement) → n ≤ 1024 → IsFreeOf (looping s) (index b) body → HasTurns (looping s) (loop (index b) n body) n
+  pub takes_turns : (b : Bool) (n : ℕ) (body : Statement) → n ≤ 1025 → IsFreeOf (looping s) (index b) body → HasTurns (looping s) (loop (index b) n body) n
   takes_turns true n body m free = of_for (record { start_is = refl; test_is = refl; step_is = refl; free = free })
       (λ k h. let below_it : nat_lt k n ≡ true = grind (arith, nat_tests, h) in test_is true n k m (omega (arith, h, m)) ∙ below_it)
       (let at_end : nat_lt n n ≡ false = grind (arith, nat_tests) in test_is true n n m m ∙ at_end)
@@ -129,7 +129,7 @@ module _ (s : Statement) where
   lone v w differ (zero, h, e) = differ e
   lone v w differ (suc k, h, e) = absurd (omega (arith, h))
 
-  sum_is_free : (v : ℕ) → (0 ≡ v → ⊥) → IsFreeOf (looping s) v more_by_one
+  pub sum_is_free : (v : ℕ) → (0 ≡ v → ⊥) → IsFreeOf (looping s) v more_by_one
   sum_is_free v differ marks o x itself c = lone 0 v differ c
 
   inner_is_free : IsFreeOf (looping s) 1 inner
@@ -161,7 +161,7 @@ unrolled = record {
 }
 
 -- where they stand
-initially : (s : Statement) (marks : List ℕ) (x : Statement) → Stands [] [] s marks x → LoopAt (looping s) marks x
+pub initially : (s : Statement) (marks : List ℕ) (x : Statement) → Stands [] [] s marks x → LoopAt (looping s) marks x
 initially s marks x st = loop_of_process {p = 0} (record { process = initial s; is = refl; stands = st })
 
 -- as U counts them
@@ -169,7 +169,7 @@ counted_u : (times : List ℕ → Statement → ℕ) → CountsTurns (looping (l
     → u_of (looping (loop 1 1024 more_by_one)) times (initial (loop 1 1024 more_by_one)) ≡ 15376
 counted_u times c = looping_u times (c.unrolled [] (loop 1 1024 more_by_one) 1024 (initially (loop 1 1024 more_by_one) _ _ itself) unrolled)
 
-counted_twice_u : (times : List ℕ → Statement → ℕ) → CountsTurns (looping outer) times → u_of (looping outer) times (initial outer) ≡ 343526
+pub counted_twice_u : (times : List ℕ → Statement → ℕ) → CountsTurns (looping outer) times → u_of (looping outer) times (initial outer) ≡ 343526
 counted_twice_u times c = nested_u times (c.unrolled [] outer 150 (initially outer _ _ itself) (outer_unrolled outer)) (c.unrolled [] inner 150 (initially outer _ _ (in_for itself)) (inner_unrolled outer []))
 
 -- ---- `task t0; x = 1; endtask`, and for each k from 1 to 15 a task `tk` with two enables of the one before it, in a `begin`
@@ -184,7 +184,7 @@ abbrev doubles : ℕ → ℕ → List FlatTask
 doubles k zero = []
 doubles k (suc n) = task (k + 1) (twice k) ∷ doubles (k + 1) n
 
-abbrev doubling : Flat
+abbrev pub doubling : Flat
 doubling = record (design (reg 1 ∷ []) [] (initial (Enable (at 1) 15 [] []) ∷ []) [] (0 ∷ [])) { tasks = task 0 (assign 0 (int 1)) ∷ doubles 0 15; marks = 16 }
 
 abbrev size_at : (List ℕ → Statement → ℕ) → ℕ → List ℕ → ℕ → ℕ
@@ -211,7 +211,7 @@ all_doubled times zero marks h = refl
 all_doubled times (suc k) marks h =
     doubled times (suc k) k (sizes k) marks (doubles_at 0 15 k k (omega (arith, h)) (omega arith)) (λ more. all_doubled times k more (omega (arith, h))) ∙ omega arith
 
-doubling_size : (times : List ℕ → Statement → ℕ) → size_of (in_place doubling times) [] (Enable (at 1) 15 [] []) ≡ 262141
+pub doubling_size : (times : List ℕ → Statement → ℕ) → size_of (in_place doubling times) [] (Enable (at 1) 15 [] []) ≡ 262141
 doubling_size times = ap (λ n. 2 + n) (all_doubled times 15 [] (omega arith))
 
 -- ---- over all instances: each body counts once, a loop's too, and an enable without the body

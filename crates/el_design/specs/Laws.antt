@@ -11,7 +11,7 @@ use Rattle.el_design.specs.Act.{Process, act}
 pub use Rattle.el_design.specs.Queue.{is_empty}
 use Rattle.el_design.specs.Queue.{Config, has_value, is_stuck, can_run, Event, Run, Follow, Update, ready, IsStarved, IsAtRest}
 use Rattle.el_design.specs.Run.{IsStimulus, Starts, Continues, Takes, Any, Runs}
-use Rattle.el_design.specs.Sizes.{CountsTurns, CountsStops, u_of}
+use Rattle.el_design.specs.Sizes.{CountsTurns, CountsStops, u_of, s_of}
 use Rattle.el_design.specs.Rules.{most_turns}
 
 -- so many steps that are no events lead from a stack to another
@@ -113,6 +113,12 @@ AtMostUEvents d = (times : List ℕ → Statement → ℕ) → CountsTurns d tim
 -- How often each loop counts where it stands is a number, in U and in S.
 abbrev pub LoopsCount : Flat → Type 0
 LoopsCount d = ((times : List ℕ → Statement → ℕ) × CountsTurns d times) × ((often : List ℕ → Statement → ℕ) × CountsStops d often)
+
+-- U and S of a process are one number each: those who count the loops rightly come to the same.
+abbrev pub SizesAreOne : Flat → Type 0
+SizesAreOne d =
+    ((a b : List ℕ → Statement → ℕ) → CountsTurns d a → CountsTurns d b → (p : ℕ) (process : FlatProc) → slice_get d.procs p ≡ Some process → u_of d a process ≡ u_of d b process)
+    × ((a b : List ℕ → Statement → ℕ) → CountsStops d a → CountsStops d b → (p : ℕ) (process : FlatProc) → slice_get d.procs p ≡ Some process → s_of d a process ≡ s_of d b process)
 
 -- each loop counts as often as an unrolled one may
 abbrev pub AtMostMaxEvents : Flat → Type 0

@@ -11,7 +11,7 @@ ghost use Rattle.el_design.specs.Act.{Process};
 ghost use Rattle.el_design.specs.Queue.{Config};
 ghost use Rattle.el_design.specs.Bodies.{BodyRuns, FunctionsEnd};
 ghost use Rattle.el_design.specs.Places.{WalksInPlace};
-ghost use Rattle.el_design.specs.Laws.{StacksSettle, ProcessesRun, EventsAreListed, EveryEdgeEnds, LoopsCount, AtMostUEvents, AtMostMaxEvents, EveryStimulusRuns};
+ghost use Rattle.el_design.specs.Laws.{StacksSettle, ProcessesRun, EventsAreListed, EveryEdgeEnds, LoopsCount, SizesAreOne, AtMostUEvents, AtMostMaxEvents, EveryStimulusRuns};
 
 /// Steps that are no events lead from each stack to the one that `settle` gives, which is still.
 pub fn stacks_settle()
@@ -51,6 +51,11 @@ pub fn every_edge_ends()
 /// Where no rule before those on sizes is broken, how often each loop counts in `U` and in `S` is a number.
 pub fn loops_count()
     ensures { (d : Flat) → IsCleanBefore d 13 → LoopsCount d }
+{}
+
+/// There too, `U` and `S` of a process are one number each, whoever counts the loops.
+pub fn sizes_are_one()
+    ensures { (d : Flat) → IsCleanBefore d 13 → SizesAreOne d }
 {}
 
 /// In a design that breaks no rule no process has more than `U` events in an edge, whatever events are taken;
