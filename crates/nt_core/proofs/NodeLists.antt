@@ -1,5 +1,5 @@
 -- Lists of nodes that grow.
-use Rattle.std.proofs.Common.{◌≡◌, ℕ, zero, suc, ◌<◌, ◌≤◌, List, [], ◌∷◌, ◌++◌, length, take, arith, refl, subst, sym, ap, ◌∙◌, ◌⊎◌, inl, inr, Some}
+use Rattle.std.proofs.Common.{◌≡◌, ℕ, zero, suc, ◌<◌, ◌≤◌, List, [], ◌∷◌, ◌++◌, length, length-append, take, arith, refl, subst, sym, ap, ◌∙◌, ◌⊎◌, inl, inr, Some}
 use Rattle.std.specs.Prelude.{slice_get}
 use Rattle.std.proofs.lemmas.Option.{same_Some, none-some}
 use Rattle.std.proofs.lemmas.List.{map-append, length-map, take-append-le}
@@ -32,8 +32,9 @@ take-widths-seam ns m i h =
     ∙ take-append_seam (widths ns) (widths (m ∷ []))
 
 -- one more node that fits those before it
-pub AreNodes-push : (ns : List Node) (m : Node) → AreNodes ns → IsNode (widths ns) m → AreNodes (ns ++ m ∷ [])
-AreNodes-push ns m are is = record {
+pub AreNodes-push : (ns : List Node) (m : Node) → AreNodes ns → length ns < 4294967295 → IsNode (widths ns) m → AreNodes (ns ++ m ∷ [])
+AreNodes-push ns m are room is = record {
+  few = omega (arith, room, length-append ns (m ∷ []));
   each = λ i x e. elim (slice_get-push ns m i x e) [
     | inl p ↦ subst (λ ws. IsNode ws x) (sym (take-widths-push ns m i (omega (arith, p.0)))) (are.each i x p.1)
     | inr p ↦ subst (λ k. IsNode (take i (widths (ns ++ m ∷ []))) k) p.1 (subst (λ ws. IsNode ws m) (sym (take-widths-seam ns m i p.0)) is)

@@ -15,6 +15,10 @@ use Rattle.xt_base.specs.Identifiers.{is_identifier}
 use Rattle.nt_core.specs.Names.{is_pin_name}
 use Rattle.nt_core.specs.Forms.{IsWidth, IsNode, widths}
 
+-- a list whose entries are numbered by 32 bits holds at most so many; its length has 32 bits as well
+abbrev pub IsNumbered : {X : Type 0} → List X → Type 0
+IsNumbered xs = length xs ≤ 4294967295
+
 -- ---- the parts by themselves
 
 -- at most 16 widths, each in range
@@ -92,11 +96,16 @@ pub record IsWrite (n : Parts) (w : MemWrite) : Type 0 where
 
 -- ---- all of them
 
--- the version is 1, and there are at most 64 processes and 256 functions
+-- the version is 1, there are at most 64 processes and 256 functions, and the other lists can be numbered; hosts, drives and next values are bounded by these
 pub record HasCounts (n : Parts) : Type 0 where
   pub version : n.version ≡ 1
   pub processes : n.processes ≤ 64
   pub functions : length n.functions ≤ 256
+  pub inputs : IsNumbered n.inputs
+  pub outputs : IsNumbered n.outputs
+  pub registers : IsNumbered n.registers
+  pub memories : IsNumbered n.memories
+  pub writes : IsNumbered n.writes
 
 -- each part is as it has to be
 pub record HasParts (n : Parts) : Type 0 where
@@ -118,15 +127,16 @@ pub record IsConnected (n : Parts) : Type 0 where
   pub nexts : Drive n.nodes n.nexts (map (λ k. k.width) n.registers)
   pub writes : All (IsWrite n) n.writes
 
--- all conditions but that the nodes fit one another
+-- all conditions but those on the nodes alone
 pub record IsShell (n : Parts) : Type 0 where
   pub counts : HasCounts n
   pub parts : HasParts n
   pub pins : HasPins n
   pub connected : IsConnected n
 
--- each node fits the nodes before it
+-- the nodes can be numbered, and each fits the nodes before it
 pub record AreNodes (nodes : List Node) : Type 0 where
+  pub few : IsNumbered nodes
   pub each : (i : ℕ) (m : Node) → slice_get nodes i ≡ Some m → IsNode (take i (widths nodes)) m
 
 -- a netlist

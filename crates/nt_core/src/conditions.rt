@@ -1,4 +1,4 @@
-//! Whether a shell and nodes make a netlist.
+//! Whether a shell and nodes keep the conditions of a netlist.
 ghost use Rattle.std.specs.Prelude.{◌≡◌, ◌≢◌, ℕ, ◌+◌, ◌<◌, ◌≤◌, ◌↔◌, ◌++◌, ◌∷◌, [], List, map, flat_map, length, slice_get, slice_index, Some, IsSome, option_copied, All, AllPairs, IsTrue};
 ghost use Rattle.std.specs.List.Sorted.{IsStrictlyIncreasing};
 ghost use Rattle.xt_bits.specs.Word.{IsKept};
@@ -350,8 +350,8 @@ fn is_kept(start: &Bits) -> bool
 }
 
 impl Shell {
-    /// Whether this shell and these nodes keep all conditions of a netlist but those on the nodes alone, which
-    /// `has_operands` asks of each.
+    /// Whether this shell and these nodes keep all conditions of a netlist but those on the nodes alone: that there
+    /// are at most 4,294,967,295, and that each can follow those before it, which `can_follow` tells.
     ///
     /// It compares the names of each pair of pins.
     pub fn fits(&self, nodes: &[Node]) -> bool
@@ -378,7 +378,21 @@ impl Shell {
 fn has_counts(shell: &Shell, nodes: &[Node]) -> bool
     ensures { IsTrue result ↔ HasCounts (assembled shell.now nodes.now) }
 {
-    shell.version == 1 && shell.processes <= 64 && shell.functions.len() <= 256
+    shell.version == 1
+        && shell.processes <= 64
+        && shell.functions.len() <= 256
+        && is_numbered(shell.inputs.len())
+        && is_numbered(shell.outputs.len())
+        && is_numbered(shell.registers.len())
+        && is_numbered(shell.memories.len())
+        && is_numbered(shell.writes.len())
+}
+
+/// Whether a list of so many entries can be numbered by a `u32`, and its length too.
+fn is_numbered(count: usize) -> bool
+    ensures { IsTrue result ↔ (count ≤ 4294967295) }
+{
+    count <= u32::MAX as usize
 }
 
 /// Whether the functions, registers, memories and hosts are as they have to be.

@@ -1,22 +1,23 @@
 -- What every netlist keeps, as its reading asks for it.
-use Rattle.std.proofs.Common.{◌≡◌, ℕ, ◌+◌, ◌≤◌, ◌<◌, ◌==◌, true, List, [], ◌∷◌, ◌++◌, length, map, flat_map, get_or, refl, sym, ap, ◌∙◌, subst, arith, codes, IsTrue, Option, Some, None, slice_get, All}
+use Rattle.std.proofs.Common.{◌≡◌, ℕ, suc, ◌+◌, ◌≤◌, ◌<◌, ◌==◌, true, List, [], ◌∷◌, ◌++◌, length, map, get_or, refl, sym, ap, ◌∙◌, subst, arith, IsTrue, Option, Some, None, slice_get, slice_index, All}
 use Rattle.std.specs.Prelude.{IsSome}
-use Rattle.std.specs.List.{enumerate_from, AllByRecursion, position_or_len}
+use Rattle.std.specs.List.{AllByRecursion, position_or_len}
+use Rattle.std.specs.List.Sorted.{IsStrictlyIncreasing}
 use Rattle.std.proofs.Math.ListN.{get_or-map}
 use Rattle.std.proofs.lemmas.Option.{slice_get_within, get_or_from_slice_get}
 use Rattle.std.proofs.lemmas.Bool.{eqb-true}
 use Rattle.std.proofs.lemmas.List.{length-map, length-append, get_or_append_left}
-use Rattle.std.proofs.lemmas.List.FromFn.{length-enumerate_from}
 use Rattle.std.proofs.lemmas.List.Folds.{find_at}
 use Rattle.std.proofs.lemmas.List.Sums.{passes_at_first}
 use Rattle.std.proofs.lemmas.List.Elements.{recursion_from_All}
+use Rattle.xt_bits.specs.Word.{Word}
 use Rattle.nt_core.specs.declared.netlist.Wire.{Wire}
 use Rattle.nt_core.specs.HostLine.{HostLine}
 use Rattle.nt_core.specs.Parts.{Parts}
 use Rattle.nt_core.specs.Names.{is_pin_name}
 use Rattle.nt_core.specs.Forms.{IsWidth}
-use Rattle.nt_core.specs.Conditions.{IsNetlist, IsPin, IsHost, host_of, reply_widths}
-use Rattle.nt_core.specs.Text.{numbered, head_lines, input_line, input_lines, host_input_lines, output_lines, declaration_lines, register_line, memory_line, node_line, assign_lines, clock_lines, next_line, write_line, lines_of, text_of}
+use Rattle.nt_core.specs.Conditions.{IsNetlist, IsPin, IsHost, AreHosts, HasCounts, host_of, reply_widths}
+use Rattle.nt_core.proofs.Drives.{drive_length}
 use Rattle.nt_read.specs.Names.{names_of}
 use Rattle.nt_read.specs.Forms.{place_of}
 use Rattle.nt_read.proofs.PinNames.{place_is_pin}
@@ -25,19 +26,28 @@ use Rattle.nt_read.proofs.Sections.{GoodHost, GoodPin}
 
 -- ---- counts
 
--- a text has at least as many bytes as lines
-lines_short : (lines : List (List ℕ)) → length lines ≤ length (flat_map (λ line. line ++ codes "\n") lines)
-lines_short [] = omega arith
-lines_short (line ∷ lines) = omega (arith, lines_short lines, length-append (line ++ codes "\n") (flat_map (λ l. l ++ codes "\n") lines), length-append line (codes "\n"))
+-- rising numbers, none below the one and all below the other, are no more than lie between them
+rising_few : (least bound x : ℕ) (xs : List ℕ) → least ≤ x → IsStrictlyIncreasing (x ∷ xs) → AllByRecursion (λ k. k < bound) (x ∷ xs) → least + length (x ∷ xs) ≤ bound
+rising_few least bound x [] low rising below = omega (arith, low, below.0)
+rising_few least bound x (y ∷ ys) low rising below =
+    let first : x < y = rising 0 (omega arith) in
+    let rest : IsStrictlyIncreasing (y ∷ ys) = λ k within. let next : suc k + 1 ≡ suc (k + 1) = omega arith in subst (λ j. slice_index (y ∷ ys) k < slice_index (x ∷ y ∷ ys) j) next (rising (suc k) (omega (arith, within))) in
+    omega (arith, rising_few (least + 1) bound y ys (omega (arith, low, first)) rest below.1)
 
-length_numbered : {X : Type 0} (line : ℕ → X → List ℕ) (xs : List X) → length (numbered line xs) ≡ length xs
-length_numbered line xs = length-map (enumerate_from 0 xs) (λ i. line i.0 i.1) ∙ length-enumerate_from 0 xs
+few_below : (bound : ℕ) (xs : List ℕ) → IsStrictlyIncreasing xs → AllByRecursion (λ k. k < bound) xs → length xs ≤ bound
+few_below bound [] rising below = omega arith
+few_below bound (x ∷ xs) rising below = omega (arith, rising_few 0 bound x xs (omega arith) rising below)
 
-hosts_short : (hs : List HostLine) → length hs ≤ length (flat_map host_input_lines hs)
-hosts_short [] = omega arith
-hosts_short (h ∷ hs) = omega (arith, hosts_short hs, length-append (host_input_lines h) (flat_map host_input_lines hs))
+served : (processes : ℕ) (hs : List HostLine) → AllByRecursion (IsHost processes) hs → AllByRecursion (λ k. k < processes) (map (λ h. h.process) hs)
+served processes [] each = tt
+served processes (h ∷ hs) each = (each.0.process, served processes hs each.1)
 
--- no part has more items than the text has bytes
+-- each process has at most one host
+hosts_few : (processes : ℕ) (hs : List HostLine) → AreHosts processes hs → length hs ≤ processes
+hosts_few processes hs are =
+    omega (arith, length-map hs (λ (h : HostLine). h.process), few_below processes (map (λ h. h.process) hs) are.rising (served processes hs (recursion_from_All (IsHost processes) hs are.each)))
+
+-- no part has more items than this
 pub record Counts (most : ℕ) (n : Parts) : Type 0 where
   pub inputs : length n.inputs ≤ most
   pub hosts : length n.hosts ≤ most
@@ -46,39 +56,16 @@ pub record Counts (most : ℕ) (n : Parts) : Type 0 where
   pub nodes : length n.nodes ≤ most
   pub nexts : length n.nexts ≤ most
 
-pub counts : (most : ℕ) (n : Parts) → length (text_of n) ≤ most → Counts most n
-counts most n short =
-    let all : length (lines_of n) ≤ most = omega (arith, lines_short (lines_of n), short) in
-    let split : length (lines_of n) ≡ length (head_lines n) + length (input_lines n) + length (output_lines n) + length (declaration_lines n) + length (assign_lines n) + length (clock_lines n) = omega (
-      arith,
-      length-append (head_lines n ++ input_lines n ++ output_lines n ++ declaration_lines n ++ assign_lines n) (clock_lines n),
-      length-append (head_lines n ++ input_lines n ++ output_lines n ++ declaration_lines n) (assign_lines n),
-      length-append (head_lines n ++ input_lines n ++ output_lines n) (declaration_lines n),
-      length-append (head_lines n ++ input_lines n) (output_lines n),
-      length-append (head_lines n) (input_lines n),
-    ) in
-    let pins : length (input_lines n) ≡ 1 + (length n.inputs + length (flat_map host_input_lines n.hosts)) = omega (arith, length-append (map (λ (i : Wire). input_line i.width i.name) n.inputs) (flat_map host_input_lines n.hosts), length-map n.inputs (λ (i : Wire). input_line i.width i.name)) in
-    let declared : length (declaration_lines n) ≡ length n.registers + length n.memories + length n.nodes = omega (
-      arith,
-      length-append (numbered register_line n.registers ++ numbered memory_line n.memories) (numbered (node_line n) n.nodes),
-      length-append (numbered register_line n.registers) (numbered memory_line n.memories),
-      length_numbered register_line n.registers,
-      length_numbered memory_line n.memories,
-      length_numbered (node_line n) n.nodes,
-    ) in
-    let nexts : length n.nexts ≤ length (clock_lines n) = omega (
-      arith,
-      length-append (numbered next_line n.nexts ++ map write_line n.writes) (codes "  end" ∷ codes "endmodule" ∷ []),
-      length-append (numbered next_line n.nexts) (map write_line n.writes),
-      length_numbered next_line n.nexts,
-    ) in
+pub counts : (most : ℕ) (n : Parts) → 4294967295 ≤ most → IsNetlist n → Counts most n
+counts most n room net =
+    let counted : HasCounts n = net.shell.counts in
     record {
-      inputs = omega (arith, all, split, pins);
-      hosts = omega (arith, all, split, pins, hosts_short n.hosts);
-      registers = omega (arith, all, split, declared);
-      memories = omega (arith, all, split, declared);
-      nodes = omega (arith, all, split, declared);
-      nexts = omega (arith, all, split, nexts);
+      inputs = omega (arith, room, counted.inputs);
+      hosts = omega (arith, room, counted.processes, hosts_few n.processes n.hosts net.shell.parts.hosts);
+      registers = omega (arith, room, counted.registers);
+      memories = omega (arith, room, counted.memories);
+      nodes = omega (arith, room, net.nodes.few);
+      nexts = omega (arith, room, counted.registers, drive_length n.nodes n.nexts _ net.shell.connected.nexts, length-map n.registers (λ (k : Word). k.width));
     }
 
 -- ---- hosts
@@ -111,9 +98,8 @@ rets_small processes hs p i w each at = go (host_of hs p) refl at
 abbrev no_wire : Wire
 no_wire = record { name = []; width = 0 }
 
-pub fits : (most : ℕ) (n : Parts) → 65536 ≤ most → IsNetlist n → length (text_of n) ≤ most → Fits most n
-fits most n room net short =
-    let c : Counts most n = counts most n short in
+pub fits : (most : ℕ) (n : Parts) → 65536 ≤ most → IsNetlist n → Counts most n → Fits most n
+fits most n room net c =
     record {
       inputs = c.inputs;
       registers = c.registers;

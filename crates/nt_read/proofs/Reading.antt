@@ -15,6 +15,7 @@ use Rattle.nt_core.specs.Text.{host_name, ack_name, ret_name, arg_name, port_nam
 use Rattle.nt_write.specs.Lines.{host_output_lines}
 use Rattle.nt_write.proofs.PortLists.{arg_lines, other_lines}
 use Rattle.nt_read.specs.declared.sketch.Told.{Told}
+use Rattle.nt_read.specs.Words.{greatest}
 use Rattle.nt_read.specs.Names.{names_of}
 use Rattle.nt_read.specs.Sketch.{nothing, is_node_line, lines_in, told, shell_told, form_told, forms_told, all_made, parts_told}
 use Rattle.nt_read.proofs.Pieces.{word_bytes}
@@ -201,29 +202,30 @@ module _ (most : ℕ) (wide : most < 2 ^ 64) (room : 65536 ≤ most) where
       ∙ ap (λ t. t ++ F nodes) (no_forms n fit declared (declared_others n))
       ∙ forms_from most wide room n fit 0 n.nodes (omega (arith, c.nodes)) (good_nodes most n net c.nodes)
 
-  -- ---- the whole
+-- ---- the whole
 
-  -- what a netlist's text tells is the netlist's
-  pub tells : (n : Parts) → IsNetlist n → length (text_of n) ≤ most → (shell_told most (text_of n) ≡ shell_of most wide room n) × (forms_told most (names_of (n.inputs ++ n.outputs)) (text_of n) ≡ map (λ m. m.op) n.nodes)
-  tells n net short =
-      let c : Counts most n = counts most n short in
-      let fit : Fits most n = fits most n room net short in
-      let lines : lines_in (text_of n) ≡ lines_of n ++ [] ∷ [] = lines_of_text (lines_of n) (plain_lines n net c fit) in
-      let told_all : fold (told most) nothing (lines_in (text_of n)) ≡ record { shell = shell_of most wide room n; asked = length n.hosts } =
-      ap (fold (told most) nothing) lines ∙ fold-append (told most) nothing (lines_of n) ([] ∷ []) ∙ ap (λ s. told most s []) (lines_told most wide room n net c) in
-      (ap (λ (s : Told). s.shell) told_all, ap (formed most wide room n fit) lines ∙ forms_of_lines n net c fit)
+pub wide : greatest < 2 ^ 64
+wide = omega arith
 
-  pub parts_read : (n : Parts) → IsNetlist n → length (text_of n) ≤ most → parts_told most (text_of n) ≡ n
-  parts_read n net short =
-      ap (λ s. assembled s (all_made (forms_told most (names_of (s.inputs ++ s.outputs)) (text_of n)))) (tells n net short).0
-      ∙ ap (λ ops. assembled (shell_of most wide room n) (all_made ops)) (tells n net short).1
-      ∙ ap (assembled (shell_of most wide room n)) (all_made_is n.nodes net.nodes)
+pub room : 65536 ≤ greatest
+room = omega arith
+
+-- what a netlist's text tells is the netlist's
+pub tells : (n : Parts) → IsNetlist n → (shell_told greatest (text_of n) ≡ shell_of greatest wide room n) × (forms_told greatest (names_of (n.inputs ++ n.outputs)) (text_of n) ≡ map (λ m. m.op) n.nodes)
+tells n net =
+    let c : Counts greatest n = counts greatest n (omega arith) net in
+    let fit : Fits greatest n = fits greatest n room net c in
+    let lines : lines_in (text_of n) ≡ lines_of n ++ [] ∷ [] = lines_of_text (lines_of n) (plain_lines greatest wide room n net c fit) in
+    let told_all : fold (told greatest) nothing (lines_in (text_of n)) ≡ record { shell = shell_of greatest wide room n; asked = length n.hosts } =
+    ap (fold (told greatest) nothing) lines ∙ fold-append (told greatest) nothing (lines_of n) ([] ∷ []) ∙ ap (λ s. told greatest s []) (lines_told greatest wide room n net c) in
+    (ap (λ (s : Told). s.shell) told_all, ap (formed greatest wide room n fit) lines ∙ forms_of_lines greatest wide room n net c fit)
+
+parts_read : (n : Parts) → IsNetlist n → parts_told greatest (text_of n) ≡ n
+parts_read n net =
+    ap (λ s. assembled s (all_made (forms_told greatest (names_of (s.inputs ++ s.outputs)) (text_of n)))) (tells n net).0
+    ∙ ap (λ ops. assembled (shell_of greatest wide room n) (all_made ops)) (tells n net).1
+    ∙ ap (assembled (shell_of greatest wide room n)) (all_made_is n.nodes net.nodes)
 
 -- two netlists with one text are one
-pub one : (m n : Parts) → IsNetlist m → IsNetlist n → length (text_of m) < 2 ^ 63 → text_of m ≡ text_of n → m ≡ n
-one m n first second short same =
-    let wide : 2 ^ 63 + 65536 < 2 ^ 64 = omega arith in
-    let room : 65536 ≤ 2 ^ 63 + 65536 = omega arith in
-    sym (parts_read (2 ^ 63 + 65536) wide room m first (omega (arith, short)))
-    ∙ ap (parts_told (2 ^ 63 + 65536)) same
-    ∙ parts_read (2 ^ 63 + 65536) wide room n second (omega (arith, short, ap length same))
+pub one : (m n : Parts) → IsNetlist m → IsNetlist n → text_of m ≡ text_of n → m ≡ n
+one m n first second same = sym (parts_read m first) ∙ ap (parts_told greatest) same ∙ parts_read n second

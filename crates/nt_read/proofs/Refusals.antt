@@ -1,5 +1,5 @@
 -- Why bytes are no netlist's text.
-use Rattle.std.proofs.Common.{◌≡◌, ◌≢◌, ℕ, ◌^◌, ◌≤◌, ◌<◌, List, ◌++◌, length, map, refl, sym, ap, ◌∙◌, subst, arith, Option, Some, None}
+use Rattle.std.proofs.Common.{◌≡◌, ◌≢◌, ℕ, List, ◌++◌, map, refl, sym, ap, ◌∙◌, subst, Option, Some, None}
 use Rattle.std.specs.Prelude.{MatchOption, Result, Ok, Err, IfOk}
 use Rattle.nt_core.specs.declared.netlist.Node.{Node}
 use Rattle.nt_core.specs.declared.netlist.Op.{Op}
@@ -13,43 +13,37 @@ use Rattle.nt_read.specs.Told.{IsTold}
 use Rattle.nt_read.proofs.Distinct.{AreApart}
 use Rattle.nt_read.proofs.Nodes.{all_made_is}
 use Rattle.nt_read.proofs.Whole.{shell_of}
-use Rattle.nt_read.proofs.Reading.{tells, one}
-
-wide : greatest < 2 ^ 64
-wide = omega arith
-
-room : 65536 ≤ greatest
-room = omega arith
+use Rattle.nt_read.proofs.Reading.{wide, room, tells, one}
 
 -- no netlist has the bytes as its text
 abbrev pub IsNoText : List ℕ → Type 0
 IsNoText bytes = (n : Parts) → IsNetlist n → text_of n ≢ bytes
 
-shell_is : (bytes : List ℕ) (s : ShellParts) (n : Parts) → s ≡ shell_told greatest bytes → length bytes ≤ greatest → IsNetlist n → text_of n ≡ bytes → s ≡ shell_of greatest wide room n
-shell_is bytes s n told short net same = told ∙ ap (shell_told greatest) (sym same) ∙ (tells greatest wide room n net (subst (λ t. length t ≤ greatest) (sym same) short)).0
+shell_is : (bytes : List ℕ) (s : ShellParts) (n : Parts) → s ≡ shell_told greatest bytes → IsNetlist n → text_of n ≡ bytes → s ≡ shell_of greatest wide room n
+shell_is bytes s n told net same = told ∙ ap (shell_told greatest) (sym same) ∙ (tells n net).0
 
-forms_are : (bytes : List ℕ) (s : ShellParts) (forms : List Op) (n : Parts) → s ≡ shell_told greatest bytes → forms ≡ forms_told greatest (names_of (s.inputs ++ s.outputs)) bytes → length bytes ≤ greatest → IsNetlist n → text_of n ≡ bytes → map (λ m. m.op) n.nodes ≡ forms
-forms_are bytes s forms n told forms_told_is short net same = sym (
+forms_are : (bytes : List ℕ) (s : ShellParts) (forms : List Op) (n : Parts) → s ≡ shell_told greatest bytes → forms ≡ forms_told greatest (names_of (s.inputs ++ s.outputs)) bytes → IsNetlist n → text_of n ≡ bytes → map (λ m. m.op) n.nodes ≡ forms
+forms_are bytes s forms n told forms_told_is net same = sym (
     forms_told_is
-    ∙ ap (λ p. forms_told greatest (names_of (p.inputs ++ p.outputs)) bytes) (shell_is bytes s n told short net same)
+    ∙ ap (λ p. forms_told greatest (names_of (p.inputs ++ p.outputs)) bytes) (shell_is bytes s n told net same)
     ∙ ap (forms_told greatest (names_of (n.inputs ++ n.outputs))) (sym same)
-    ∙ (tells greatest wide room n net (subst (λ t. length t ≤ greatest) (sym same) short)).1)
+    ∙ (tells n net).1)
 
 -- two pins have one name
-pub twice : (bytes : List ℕ) (s : ShellParts) → s ≡ shell_told greatest bytes → length bytes ≤ greatest → (AreApart (s.inputs ++ s.outputs) → ⊥) → IsNoText bytes
-twice bytes s told short never n net same = never (subst (λ p. AreApart (p.inputs ++ p.outputs)) (sym (shell_is bytes s n told short net same)) net.shell.pins.distinct)
+pub twice : (bytes : List ℕ) (s : ShellParts) → s ≡ shell_told greatest bytes → (AreApart (s.inputs ++ s.outputs) → ⊥) → IsNoText bytes
+twice bytes s told never n net same = never (subst (λ p. AreApart (p.inputs ++ p.outputs)) (sym (shell_is bytes s n told net same)) net.shell.pins.distinct)
 
 -- the nodes don't fit one another
-pub misfit : (bytes : List ℕ) (s : ShellParts) (forms : List Op) → s ≡ shell_told greatest bytes → forms ≡ forms_told greatest (names_of (s.inputs ++ s.outputs)) bytes → length bytes ≤ greatest
+pub misfit : (bytes : List ℕ) (s : ShellParts) (forms : List Op) → s ≡ shell_told greatest bytes → forms ≡ forms_told greatest (names_of (s.inputs ++ s.outputs)) bytes
     → ((nodes : List Node) → AreNodes nodes → map (λ m. m.op) nodes ≢ forms) → IsNoText bytes
-misfit bytes s forms told forms_is short never n net same = never n.nodes net.nodes (forms_are bytes s forms n told forms_is short net same)
+misfit bytes s forms told forms_is never n net same = never n.nodes net.nodes (forms_are bytes s forms n told forms_is net same)
 
 -- the parts make no netlist, or one with another text
-pub other : (bytes : List ℕ) (s : ShellParts) (forms : List Op) (nodes : List Node) → s ≡ shell_told greatest bytes → forms ≡ forms_told greatest (names_of (s.inputs ++ s.outputs)) bytes → nodes ≡ all_made forms → length bytes ≤ greatest
+pub other : (bytes : List ℕ) (s : ShellParts) (forms : List Op) (nodes : List Node) → s ≡ shell_told greatest bytes → forms ≡ forms_told greatest (names_of (s.inputs ++ s.outputs)) bytes → nodes ≡ all_made forms
     → (IsShell (assembled s nodes) → text_of (assembled s nodes) ≢ bytes) → IsNoText bytes
-other bytes s forms nodes told forms_is nodes_are short never n net same =
-    let nodes_is : nodes ≡ n.nodes = nodes_are ∙ ap all_made (sym (forms_are bytes s forms n told forms_is short net same)) ∙ all_made_is n.nodes net.nodes in
-    let whole : assembled s nodes ≡ n = ap (λ p. assembled p nodes) (shell_is bytes s n told short net same) ∙ ap (assembled (shell_of greatest wide room n)) nodes_is in
+other bytes s forms nodes told forms_is nodes_are never n net same =
+    let nodes_is : nodes ≡ n.nodes = nodes_are ∙ ap all_made (sym (forms_are bytes s forms n told forms_is net same)) ∙ all_made_is n.nodes net.nodes in
+    let whole : assembled s nodes ≡ n = ap (λ p. assembled p nodes) (shell_is bytes s n told net same) ∙ ap (assembled (shell_of greatest wide room n)) nodes_is in
     never (subst IsShell (sym whole) net.shell) (ap text_of whole ∙ same)
 
 -- what was found, where what was not found says something else
@@ -74,4 +68,4 @@ pub only : {E : Type 0} (r : Result (Option Parts) E) (bytes : List ℕ) (m n : 
 only r bytes m n P h is net same = go (subst (λ k. IfOk k (λ o. MatchOption o P (IsTold bytes))) is h)
   where
     go : IsTold bytes m → m ≡ n
-    go told = one m n told.netlist net (omega (arith, told.short, ap length told.text)) (told.text ∙ sym same)
+    go told = one m n told.netlist net (told.text ∙ sym same)

@@ -1,7 +1,7 @@
 //! The reader of design texts.
 #![tactic(auto)]
 
-ghost use Rattle.std.specs.Prelude.{◌≡◌, ◌≢◌, ◌<◌, ◌^◌, IfOk, MatchResult, Err, length};
+ghost use Rattle.std.specs.Prelude.{◌≡◌, ◌≢◌, IfOk, MatchResult, Err};
 ghost use Rattle.nt_core.specs.Conditions.{IsNetlist};
 ghost use Rattle.nt_core.specs.Parts.{Parts};
 ghost use Rattle.nt_core.specs.Text.{text_of};
@@ -26,7 +26,7 @@ pub enum DesignFault {
     /// No netlist has the bytes as its text.
     #[error("not the text of a design")]
     BadDesign,
-    /// Memory ran out. A text of 4 GiB or more is answered so too, since nodes have numbers of 32 bits.
+    /// Memory ran out.
     #[error("out of memory")]
     Memory,
 }
@@ -48,7 +48,7 @@ pub fn read(alloc: Global, bytes: &[u8]) -> Result<Netlist, DesignFault>
     }
 }
 
-/// No two netlists have one text, of any length that a slice can have.
+/// No two netlists have one text.
 pub fn one_netlist()
-    ensures { (m n : Parts) → IsNetlist m → IsNetlist n → length (text_of m) < 2 ^ 63 → text_of m ≡ text_of n → m ≡ n }
+    ensures { (m n : Parts) → IsNetlist m → IsNetlist n → text_of m ≡ text_of n → m ≡ n }
 {}

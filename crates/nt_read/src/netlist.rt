@@ -1,5 +1,5 @@
 //! A whole text: what it tells, made a netlist, and compared with the netlist's own text.
-ghost use Rattle.std.specs.Prelude.{◌≡◌, ◌≢◌, ◌<◌, ◌^◌, ◌↔◌, ◌++◌, List, map, length, IfOk, MatchOption, AllPairs, IsTrue};
+ghost use Rattle.std.specs.Prelude.{◌≡◌, ◌≢◌, ◌↔◌, ◌++◌, List, map, IfOk, MatchOption, AllPairs, IsTrue};
 ghost use Rattle.nt_core.specs.declared.netlist.Node.{Node};
 ghost use Rattle.nt_core.specs.Conditions.{IsNetlist, IsShell, AreNodes};
 ghost use Rattle.nt_core.specs.Parts.{Parts, assembled};
@@ -24,9 +24,6 @@ use xt_base::{MemSink, NoMemory};
 pub fn netlist(alloc: Global, bytes: &[u8]) -> Result<Option<Netlist>, NoMemory>
     ensures { IfOk result (λ found. MatchOption found ((n : Parts) → IsNetlist n → text_of n ≢ bytes.now) (IsTold bytes.now)) }
 {
-    if bytes.len() >= 0xffff_ffff {
-        return Err(NoMemory);
-    }
     let shell = shell(alloc, bytes)?;
     let Some(forms) = named_forms(alloc, &shell, bytes)? else {
         return Ok(None);
@@ -69,8 +66,7 @@ fn finished(
     builder: Builder,
     bytes: &[u8],
 ) -> Result<Option<Netlist>, NoMemory>
-    requires distinct { AllPairs (λ a b. a.name ≢ b.name) (shell.inputs ++ shell.outputs) }
-    requires short { length bytes.now < 2 ^ 32 }
+    requires { AllPairs (λ a b. a.name ≢ b.name) (shell.inputs ++ shell.outputs) }
     ensures { IfOk result (λ found. MatchOption found (IsShell (assembled shell builder) → text_of (assembled shell builder) ≢ bytes.now) (IsTold bytes.now)) }
 {
     if !shell.fits_distinct(builder.nodes()) {
@@ -86,7 +82,6 @@ fn finished(
 
 /// Whether the bytes are the netlist's text, which is written for it, but no more than one byte past them.
 fn is_text_of(alloc: Global, netlist: &Netlist, bytes: &[u8]) -> Result<bool, NoMemory>
-    requires { length bytes.now < 2 ^ 32 }
     ensures { IfOk result (λ is. IsTrue is ↔ (text_of netlist.now ≡ bytes.now)) }
 {
     let mut sink = MemSink::new(alloc, bytes.len() + 1, &[])?;

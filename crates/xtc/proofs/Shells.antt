@@ -6,11 +6,13 @@ use Rattle.std.proofs.lemmas.List.Elements.{All-nil}
 use Rattle.std.proofs.lemmas.Option.{slice_get-map, slice_get-get_or}
 use Rattle.xt_bits.specs.Word as bits
 use Rattle.xt_bits.specs.Word.{word, IsKept}
+use Rattle.nt_core.specs.declared.netlist.Memory.{Memory}
+use Rattle.nt_core.specs.declared.netlist.MemWrite.{MemWrite}
 use Rattle.nt_core.specs.declared.netlist.Node.{Node}
 use Rattle.nt_core.specs.declared.netlist.Wire.{Wire}
 use Rattle.nt_core.specs.declared.netlist.Op.{Op}
 use Rattle.nt_core.specs.declared.netlist.Op.TheVariants.{Pin, Ack, Ret, Reg, Word}
-use Rattle.nt_core.specs.Conditions.{Drive, HasSource, IsFunction, IsMemory, IsHost, AreHosts, IsPin, IsWrite, IsShell, port_widths, host_port_widths}
+use Rattle.nt_core.specs.Conditions.{Drive, HasSource, IsFunction, IsMemory, IsHost, AreHosts, IsPin, IsWrite, IsNumbered, IsShell, port_widths, host_port_widths}
 use Rattle.nt_core.specs.Forms.{widths}
 use Rattle.nt_core.specs.FunctionLine.{FunctionLine}
 use Rattle.nt_core.specs.HostLine.{HostLine}
@@ -77,10 +79,13 @@ pub record AreParts (d : Design) (n : Parts) : Type 0 where
   pub processes : n.processes ≡ length d.procs
   pub functions : n.functions ≡ []
   pub inputs : n.inputs ≡ input_wires d
+  pub inputs_few : IsNumbered n.inputs
   pub outputs : n.outputs ≡ output_wires d
+  pub outputs_few : IsNumbered n.outputs
   pub hosts : n.hosts ≡ []
   pub registers : n.registers ≡ map (λ v. v.start) d.vars ++ word state_width 0 ∷ []
   pub kept : All (λ k. IsKept k.width k.value) n.registers
+  pub registers_few : IsNumbered n.registers
   pub memories : n.memories ≡ []
   pub writes : n.writes ≡ []
 
@@ -104,7 +109,16 @@ pub shell_of_form : (d : Design) (n : Parts) (m : ValueMap) (edge : ℕ) → IsO
 shell_of_form d n m edge form parts sourced is up drives nexts =
     let one : length d.procs ≡ 1 = ap (λ (ps : List Proc). length ps) form.one in
     record {
-      counts = record { version = parts.version; processes = omega (arith, parts.processes, one); functions = omega (arith, ap (λ (fs : List FunctionLine). length fs) parts.functions) };
+      counts = record {
+        version = parts.version;
+        processes = omega (arith, parts.processes, one);
+        functions = omega (arith, ap (λ (fs : List FunctionLine). length fs) parts.functions);
+        inputs = parts.inputs_few;
+        outputs = parts.outputs_few;
+        registers = parts.registers_few;
+        memories = omega (arith, ap (λ (ms : List Memory). length ms) parts.memories);
+        writes = omega (arith, ap (λ (ws : List MemWrite). length ws) parts.writes);
+      };
       parts = record {
         functions = subst (All IsFunction) (sym parts.functions) (All-nil IsFunction);
         registers = parts.kept;

@@ -1,11 +1,13 @@
 //! The parts of the netlist beside its nodes.
 ghost use Rattle.std.specs.Prelude.{◌≡◌, ◌<◌, ◌∷◌, ◌++◌, [], map, length, IfOk, All};
 ghost use Rattle.xt_bits.specs.Word.{word, IsKept};
+ghost use Rattle.nt_core.specs.Conditions.{IsNumbered};
 ghost use Rattle.xtc.specs.Form.{IsOfForm, IsThere, net_at, source_width, wire, input_wires, output_wires};
 ghost use Rattle.xtc.specs.Nodes.{IsShown, node_shown, state_width};
 
 use crate::compile::expression::ValueMap;
 use crate::compile::process::STATE_WIDTH;
+use crate::counts::numbered;
 use el_design::{Design, Net, Source};
 use nt_core::Wire;
 use std::alloc::Global;
@@ -15,26 +17,30 @@ use xt_bits::Bits;
 /// The input pins.
 pub fn input_pins(alloc: Global, design: &Design) -> Result<Vec<Wire>, NoMemory>
     requires { IsOfForm design.now }
-    ensures { IfOk result (λ wires. wires.items ≡ input_wires design.now) }
+    ensures pins { IfOk result (λ wires. wires.items ≡ input_wires design.now) }
+    ensures few { IfOk result (λ wires. IsNumbered wires.items) }
 {
     let mut wires = Vec::new(alloc);
     for number in design.inputs.as_slice() {
         let net = net_at(design, *number);
         wires.push(pin(alloc, &net.name, net.width)?)?;
     }
+    numbered(wires.len())?;
     Ok(wires)
 }
 
 /// The output pins.
 pub fn output_pins(alloc: Global, design: &Design) -> Result<Vec<Wire>, NoMemory>
     requires { IsOfForm design.now }
-    ensures { IfOk result (λ wires. wires.items ≡ output_wires design.now) }
+    ensures pins { IfOk result (λ wires. wires.items ≡ output_wires design.now) }
+    ensures few { IfOk result (λ wires. IsNumbered wires.items) }
 {
     let mut wires = Vec::new(alloc);
     for shown in design.outputs.as_slice() {
         let width = source_width(design, shown.from);
         wires.push(pin(alloc, &shown.name, width)?)?;
     }
+    numbered(wires.len())?;
     Ok(wires)
 }
 
@@ -68,12 +74,14 @@ fn source_width(design: &Design, source: Source) -> u32
 pub fn registers(alloc: Global, design: &Design) -> Result<Vec<Bits>, NoMemory>
     ensures values { IfOk result (λ starts. starts.items ≡ map (λ v. v.start) design.now.vars ++ word state_width 0 ∷ []) }
     ensures kept { IfOk result (λ starts. All (λ k. IsKept k.width k.value) starts.items) }
+    ensures few { IfOk result (λ starts. IsNumbered starts.items) }
 {
     let mut starts = Vec::new(alloc);
     for var in design.vars.as_slice() {
         starts.push(kept(var.start))?;
     }
     starts.push(kept(Bits::new(STATE_WIDTH, 0)))?;
+    numbered(starts.len())?;
     Ok(starts)
 }
 

@@ -10,11 +10,14 @@ finish-requires c =
       version = refl;
       processes = c.in_ok-processes.ensures ∙ c.len.ensures;
       functions = c.new.ensures.items;
-      inputs = c.in_ok-inputs.ensures;
-      outputs = c.in_ok-outputs.ensures;
+      inputs = c.in_ok-inputs.ensures.pins;
+      inputs_few = c.in_ok-inputs.ensures.few;
+      outputs = c.in_ok-outputs.ensures.pins;
+      outputs_few = c.in_ok-outputs.ensures.few;
       hosts = c.new-2.ensures.items;
       registers = c.in_ok-registers.ensures.values;
       kept = c.in_ok-registers.ensures.kept;
+      registers_few = c.in_ok-registers.ensures.few;
       memories = c.new-3.ensures.items;
       writes = c.new-4.ensures.items;
     })
@@ -26,8 +29,8 @@ returns c =
     record {
       with_nodes = ap (λ (n : Parts). n.nodes) is;
       outside = record {
-        inputs = ap (λ (n : Parts). n.inputs) is ∙ c.in_ok-inputs.ensures;
-        outputs = ap (λ (n : Parts). n.outputs) is ∙ c.in_ok-outputs.ensures;
+        inputs = ap (λ (n : Parts). n.inputs) is ∙ c.in_ok-inputs.ensures.pins;
+        outputs = ap (λ (n : Parts). n.outputs) is ∙ c.in_ok-outputs.ensures.pins;
         processes = ap (λ (n : Parts). n.processes) is ∙ c.in_ok-processes.ensures ∙ c.len.ensures;
         functions = ap (λ (n : Parts). n.functions) is ∙ c.new.ensures.items;
         hosts = ap (λ (n : Parts). n.hosts) is ∙ c.new-2.ensures.items;
