@@ -9,15 +9,12 @@ time. Then it reads a text of MEGABYTES (50). The program that is measured stand
 folder, which is removed at the end.
 """
 
-import os
-import shutil
-import subprocess
 import sys
 import tempfile
 
 from design import design
+from program import copied, ran
 
-ROOT = os.path.dirname(os.path.dirname(os.path.abspath(__file__)))
 LIBRARIES = ("xt_base", "xt_bits", "nt_core", "nt_write", "nt_read", "nt_run")
 BYTES_A_NODE = 48
 
@@ -75,39 +72,18 @@ fn main(rt: HostRuntime) -> io::Result<()> {
 """
 
 
-def copied(folder):
-    """Makes a repository of the libraries and the program, and answers the program's folder."""
-    with open(f"{ROOT}/crates.txt", encoding="utf-8") as lines:
-        kept = [line for line in lines if line.partition(":")[0] in LIBRARIES]
-    with open(f"{folder}/crates.txt", "w", encoding="utf-8") as to:
-        to.writelines([*kept, f"speed: {' '.join(LIBRARIES)}\n"])
-    for name in LIBRARIES:
-        for part in ("src", "specs", "proofs"):
-            if os.path.isdir(f"{ROOT}/crates/{name}/{part}"):
-                shutil.copytree(f"{ROOT}/crates/{name}/{part}", f"{folder}/crates/{name}/{part}")
-    os.makedirs(f"{folder}/crates/speed/src")
-    with open(f"{folder}/crates/speed/src/main.rt", "w", encoding="utf-8") as to:
-        to.write(PROGRAM)
-    return f"{folder}/crates/speed"
-
-
-def measured(folder, text, ticks):
+def measured(program, text, ticks):
     """Runs the program over a text, and answers the words of each of its lines."""
-    with open(f"{folder}/design.txt", "w", encoding="ascii") as to:
+    with open(f"{program}/design.txt", "w", encoding="ascii") as to:
         to.write(text)
-    words = ["rt", "run", "--", f"{folder}/design.txt", str(ticks)]
-    ran = subprocess.run(words, cwd=folder, stdout=subprocess.PIPE, encoding="ascii")
-    lines = [line.split() for line in ran.stdout.splitlines()]
-    if ran.returncode or len(lines) != 3:
-        sys.exit("the program did not run")
-    return lines
+    return ran(program, [f"{program}/design.txt", str(ticks)], 3)
 
 
 def main():
     given = [int(word) for word in sys.argv[1:]]
     nodes, ticks, megabytes = given + [5_000, 100_000, 50][len(given) :]
     with tempfile.TemporaryDirectory(prefix="speed-") as folder:
-        program = copied(folder)
+        program = copied(folder, "speed", LIBRARIES, PROGRAM)
         (_, size, count, millis), *runs = measured(program, design(nodes), ticks)
         print(f"{count} nodes, {size} bytes, read in {millis} ms", flush=True)
         for name, made, millis in runs:

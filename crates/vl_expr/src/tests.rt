@@ -141,7 +141,7 @@ const REFUSED: [(&str, u32); 40] = [
 ];
 
 /// A prefix and a suffix that stand round an expression, and how often they may stand in one another within depth 128.
-const NESTED: [(&str, &str, u32); 10] = [
+const NESTED: [(&str, &str, u32); 20] = [
     ("(", ")", 127),
     ("-", "", 127),
     ("a + ", "", 127),
@@ -151,7 +151,17 @@ const NESTED: [(&str, &str, u32); 10] = [
     ("f(", ")", 127),
     ("f(a, ", ")", 127),
     ("$signed(", ")", 127),
+    ("$unsigned(", ")", 127),
+    ("a ? ", " : b", 127),
+    ("{", "{b}}", 127),
     ("x[", "]", 63),
+    ("x[0][", "]", 63),
+    ("x[", ":0]", 63),
+    ("x[1:", "]", 63),
+    ("x[1 +: ", "]", 63),
+    ("x[1 -: ", "]", 63),
+    ("(", ") + b", 63),
+    ("b * (", ")", 63),
 ];
 
 #[derive(Drop)]

@@ -2,8 +2,8 @@
 use crate::{Kind, Token, lex, one_reading};
 use std::alloc::{AllocError, Global};
 use std::test::Fail;
-use vl_pre::Text;
-use xt_base::{Place, Refusal, Rule};
+use vl_pre::{Defines, Text, expand};
+use xt_base::{MemFiles, Place, Refusal, Rule};
 
 /// Texts and their tokens: a letter for the kind, and the bytes in brackets.
 const TOKENS: [(&str, &str); 54] = [
@@ -96,6 +96,31 @@ const REFUSED: [(&str, u32); 20] = [
     ("é", 1),
 ];
 
+/// Files of which `top.v` is expanded, and the stretch and the line of the first byte at which no token begins.
+const SOURCES: [(&[(&str, &str)], (u32, u32)); 8] = [
+    (&[("top.v", "a\n\\")], (0, 2)),
+    (
+        &[("top.v", "a\n`include \"m.v\"\nb"), ("m.v", "c\n\n$")],
+        (1, 3),
+    ),
+    (
+        &[("top.v", "a\n`include \"m.v\"\n8'"), ("m.v", "c\nd\ne\n")],
+        (2, 3),
+    ),
+    // Each byte of a use has the place of the use.
+    (&[("top.v", "`define A $\n\n`A")], (0, 3)),
+    (&[("top.v", "`define F(a) a\n`F(\n\n\\)")], (0, 2)),
+    (&[("top.v", "`define F(a) a\n`F(\n\n1) \\")], (0, 4)),
+    (&[("top.v", "`define H 8'h\na\n`H\ng")], (0, 3)),
+    (
+        &[
+            ("top.v", "`include \"m.v\"\n\n`F(\n'b2)"),
+            ("m.v", "`define F(a) (a)\n"),
+        ],
+        (2, 3),
+    ),
+];
+
 fn letter(kind: Kind) -> u8 {
     match kind {
         Kind::Word => b'W',
@@ -151,6 +176,30 @@ fn the_first_bad_byte_is_refused(rt: HostRuntime) -> Result<(), Fail> {
             ),
             Ok(_) => assert!(rt; false, "at {bytes}"),
         }
+    }
+    Ok(())
+}
+
+#[test]
+fn a_bad_byte_has_the_place_of_its_file(rt: HostRuntime) -> Result<(), Fail> {
+    for (files, (file, line)) in &SOURCES {
+        let mut held = MemFiles::new(rt.alloc(), &[])?;
+        for (name, bytes) in *files {
+            held.put(name, bytes.as_bytes())?;
+        }
+        let defines = Defines::new(rt.alloc());
+        let Ok(text) = expand(rt.alloc(), &mut held, "top.v", &defines) else {
+            assert!(rt; false, "no text for line {line}");
+            continue;
+        };
+        let told = match lex(rt.alloc(), &text) {
+            Err(xt_base::Fail::Refused(refusal)) => (refusal.place.file, refusal.place.line),
+            _ => (0, 0),
+        };
+        assert!(rt;
+            told.0 == *file && told.1 == *line,
+            "stretch {file}, line {line}"
+        );
     }
     Ok(())
 }

@@ -1,5 +1,5 @@
 -- What an answer on a text says of the grammar, and that there is one tree.
-use Rattle.std.proofs.Common.{◌≡◌, ◌==◌, ℕ, List, [], ◌∷◌, Bool, true, Result, Ok, Err, length, refl, sym, ap, subst, ◌∙◌, arith}
+use Rattle.std.proofs.Common.{◌≡◌, ◌==◌, ℕ, max, List, [], ◌∷◌, Bool, true, Result, Ok, Err, length, refl, sym, ap, subst, ◌∙◌, arith}
 use Rattle.std.proofs.lemmas.Bool.{eqb-true}
 use Rattle.std.specs.Prelude.{IfOk, MatchResult}
 use Rattle.xt_base.specs.declared.refusals.Fail.{Fail}
@@ -23,9 +23,12 @@ use Rattle.vl_parse.specs.Modules.{source_of}
 use Rattle.vl_parse.specs.Refusals.{Tells}
 use Rattle.vl_parse.proofs.SoundModules.{source_stands}
 use Rattle.vl_parse.proofs.ReadModules.{source_reads}
+use Rattle.vl_parse.proofs.Deeper.{source_deeper}
 
-pub one_tree : (ls : List Lexeme) (names : List (List ℕ)) (n : ℕ) (s t : Tree) → IsSource ls names n s → IsSource ls names n t → s ≡ t
-one_tree ls names n s t a b = ok_one (sym (source_reads ls names n s a) ∙ source_reads ls names n t b)
+pub one_tree : (ls : List Lexeme) (names : List (List ℕ)) (n m : ℕ) (s t : Tree) → IsSource ls names n s → IsSource ls names m t → s ≡ t
+one_tree ls names n m s t a b =
+    ok_one (sym (source_reads ls names (max n m) s (source_deeper ls names n s a (max n m) (omega arith)))
+    ∙ source_reads ls names (max n m) t (source_deeper ls names m t b (max n m) (omega arith)))
 
 -- without tokens there is the empty source
 pub empty_source : (text : List ℕ) (ts : List Token) (n : ℕ) → ts ≡ [] →

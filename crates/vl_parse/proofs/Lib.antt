@@ -12,4 +12,6 @@ pub mod ReadDeclarations
 pub mod ReadStatements
 pub mod ReadRoutines
 pub mod ReadModules
+pub mod DeeperParts
+pub mod Deeper
 pub mod Laws

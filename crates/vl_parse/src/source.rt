@@ -1,5 +1,5 @@
 //! The tree of a text's tokens.
-ghost use Rattle.std.specs.Prelude.{◌≡◌, ◌<◌, ◌^◌, ◌-◌, ℕ, List, length, IfOk, MatchResult};
+ghost use Rattle.std.specs.Prelude.{◌≡◌, ◌<◌, ◌≤◌, ◌^◌, ◌-◌, ℕ, List, length, IfOk, MatchResult};
 ghost use Rattle.xt_base.specs.declared.refusals.Refusal.{Refusal};
 ghost use Rattle.vl_lex.specs.Tokens.{AreTokens};
 ghost use Rattle.vl_tree.specs.declared.modules.Tree.{Tree};
@@ -80,7 +80,10 @@ pub fn parse(alloc: Global, text: &Text, tokens: &Tokens) -> Result<Tree, Fail>
     told(alloc, text, tokens)
 }
 
-/// Tokens have at most one tree.
+/// Tokens have at most one tree, whatever its depth; and what is one within a depth is one within each larger depth.
 pub fn one_tree()
-    ensures { (ls : List Lexeme) (names : List (List ℕ)) (n : ℕ) (s t : Tree) → IsSource ls names n s → IsSource ls names n t → s ≡ t }
+    ensures one { (ls : List Lexeme) (names : List (List ℕ)) (n m : ℕ) (s t : Tree) →
+        IsSource ls names n s → IsSource ls names m t → s ≡ t }
+    ensures deeper { (ls : List Lexeme) (names : List (List ℕ)) (n m : ℕ) (tree : Tree) → n ≤ m →
+        IsSource ls names n tree → IsSource ls names m tree }
 {}

@@ -377,19 +377,24 @@ fn nested(alloc: Global, pieces: &[&str; 5], count: u32) -> Result<String, Alloc
     Ok(source)
 }
 
+/// Whether the pieces nested so often are a source, or are refused in their one line.
+fn is_read(alloc: Global, pieces: &[&str; 5], count: u32) -> Result<Option<bool>, Fail> {
+    let source = nested(alloc, pieces, count)?;
+    Ok(match read(alloc, source.as_str())? {
+        Ok(_) => Some(true),
+        Err(1) => Some(false),
+        Err(_) => None,
+    })
+}
+
 #[test]
 fn depth_is_bounded(rt: HostRuntime) -> Result<(), Fail> {
     for (pieces, most) in &NESTED {
-        for more in 0..2u32 {
-            let source = nested(rt.alloc(), pieces, most.saturating_add(more))?;
-            let read = read(rt.alloc(), source.as_str())?;
-            let right = if more == 0 {
-                read.is_ok()
-            } else {
-                matches!(read, Err(1))
-            };
-            assert!(rt; right, "{} {more}", source.as_str());
-        }
+        let [_, prefix, ..] = pieces;
+        let deepest = is_read(rt.alloc(), pieces, *most)?;
+        assert!(rt; deepest == Some(true), "{prefix} as deep as may be");
+        let deeper = is_read(rt.alloc(), pieces, most.saturating_add(1))?;
+        assert!(rt; deeper == Some(false), "{prefix} one deeper");
     }
     Ok(())
 }

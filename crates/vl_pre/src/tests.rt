@@ -7,7 +7,7 @@ use xt_base::{MemFiles, NoMemory};
 /// Sources of one file, and their answers.
 ///
 /// In a text `<stretch:line>` stands before each byte whose place isn't that of the byte before it.
-const TEXTS: [(&str, &str); 78] = [
+const TEXTS: [(&str, &str); 100] = [
     // What stays.
     ("", ""),
     ("a b\nc", "<0:1>a b\n<0:2>c"),
@@ -23,6 +23,9 @@ const TEXTS: [(&str, &str); 78] = [
     ("a\n\"b\nc\"", "refused 10 0:2 top.v"),
     ("`x\n/*", "refused 10 0:2 top.v"),
     ("`define F(a) a\n`F(\n\x7f)", "refused 10 0:3 top.v"),
+    // A definition's line is looked for in the cleaned file.
+    ("`define A x\\// c\ny\n[`A]", "<0:2>\n<0:3>[ x y ]"),
+    ("`define A x /* \n */ y\n[`A]", "<0:1>\n<0:2> y\n<0:3>[ x ]"),
     // Conditional directives.
     ("`ifdef A\na\n`else\nb\n`endif\n", "<0:3>\n<0:4>b\n<0:5>\n"),
     ("`ifndef A\na\n`else\nb\n`endif\n", "<0:1>\n<0:2>a\n<0:5>\n"),
@@ -44,8 +47,19 @@ const TEXTS: [(&str, &str); 78] = [
     ("a\n`ifdef A\n", "refused 11 0:2 top.v"),
     ("`ifndef A\n`ifndef B\n", "refused 11 0:2 top.v"),
     ("`ifdef A\n`endif\n\n`ifdef\nA", "refused 11 0:4 top.v"),
+    ("`ifdef A\n`define B `endif\nx", "<0:2>\n<0:3>x"),
+    ("`ifdef A\n`define B `ifdef\n`endif", "refused 11 0:2 top.v"),
+    (
+        "`ifdef A\n`ifdef B\n`elsif\n`endif\n`endif",
+        "refused 11 0:3 top.v",
+    ),
+    ("`ifdef A\n` `1 \"`else\"\n`endif x", "<0:3> x"),
+    ("`ifdef define\nx\n`else\ny\n`endif", "<0:3>\n<0:4>y\n"),
     // Other directives.
     ("`timescale 1ns/1ps\na", "<0:1>\n<0:2>a"),
+    ("`timescale\nx", "<0:1>\n<0:2>x"),
+    ("`undef define\nx", "<0:1>\n<0:2>x"),
+    ("`undef \\\nA", "refused 11 0:1 top.v"),
     (
         "`default_nettype none\n`celldefine a `endcelldefine\n`resetall",
         "<0:1>\n<0:2> a \n",
@@ -66,6 +80,9 @@ const TEXTS: [(&str, &str); 78] = [
     ),
     ("`define A x\\\ny\n`A", "<0:2>\n<0:3> x y "),
     ("`define A x\\\r\ny\n`A", "<0:2>\n<0:3> x y "),
+    ("`define A x\\\r\r\ny\n`A", "<0:2>\n<0:3> x y "),
+    ("`define \\\nA x\n`A", "<0:2>\n<0:3> x "),
+    ("`define A x\\", ""),
     ("`define A x\n`undef A\n`A", "refused 11 0:3 top.v"),
     ("a\n`define", "refused 11 0:2 top.v"),
     ("a\n`define 1", "refused 11 0:2 top.v"),
@@ -73,6 +90,7 @@ const TEXTS: [(&str, &str); 78] = [
     ("a\n`define F(a, a) x", "refused 11 0:2 top.v"),
     ("a\n`define F() x", "refused 11 0:2 top.v"),
     ("a\n`define F(a x", "refused 11 0:2 top.v"),
+    ("`define F(1) a", "refused 11 0:1 top.v"),
     ("a\n`define A `else", "refused 11 0:2 top.v"),
     ("a\n`define A x\\\n`else\n", "refused 11 0:3 top.v"),
     // Uses with arguments.
@@ -84,11 +102,20 @@ const TEXTS: [(&str, &str); 78] = [
     ),
     ("`define F(hff) 8'hff\n`F(1)", "<0:1>\n<0:2> 8'1 "),
     (
+        "`define F(else) else `A else\n`define A 9\n`F(1)",
+        "<0:1>\n<0:2>\n<0:3> 1  9  1 ",
+    ),
+    (
         "`define F(a, b) [a|b]\n`F( (1,2) , {3,4} )",
         "<0:1>\n<0:2> [(1,2)|{3,4}] ",
     ),
     ("`define F(a) a\n`F(\"x,y)\")", "<0:1>\n<0:2> \"x,y)\" "),
     ("`define F(a, b) [a|b]\n`F(,)", "<0:1>\n<0:2> [|] "),
+    ("`define F(a,b) a|b\n`F(1], 2})", "<0:1>\n<0:2> 1]|2} "),
+    (
+        "`define F(a) [a]\n`F(\n 1 \n 2\n \n)",
+        "<0:1>\n<0:2> [1   2] ",
+    ),
     (
         "`define F(a) [a]\n`F\n(\n1\n2\n)\n3",
         "<0:1>\n<0:2> [1 2] <0:6>\n<0:7>3",
@@ -99,10 +126,18 @@ const TEXTS: [(&str, &str); 78] = [
         "<0:1>\n<0:2>\n<0:3>  x  <0:4>b",
     ),
     // Uses that break a rule.
+    ("`Q(", "refused 11 0:1 top.v"),
+    ("`define F(a) 1\n`F(\n`u)", "refused 11 0:3 top.v"),
+    ("`define F(a) a\n`F(`F(\n`u))", "refused 11 0:3 top.v"),
+    (
+        "`define M `u\n`define F(a) a\n`F(\n`M)",
+        "refused 11 0:3 top.v",
+    ),
     ("`define A `u\n\n`A", "refused 11 0:3 top.v"),
     ("`define F(a) a\n`F(\n`u)", "refused 11 0:3 top.v"),
     ("`define F(a) a\n`F(\n`else)", "refused 11 0:3 top.v"),
     ("`define F(a) a\n`F(\n`)", "refused 11 0:3 top.v"),
+    ("`define F(a) a\n`F(1, 2,\n`else)", "refused 11 0:3 top.v"),
     ("`define A `A\n\n`A", "refused 12 0:3 top.v"),
     ("`define A `B\n`define B `A\n`A", "refused 12 0:3 top.v"),
     ("`define F(a) `F(a)\n`F(1)", "refused 12 0:2 top.v"),
@@ -145,7 +180,7 @@ struct Case {
     faults: u64,
 }
 
-const SOURCES: [Case; 28] = [
+const SOURCES: [Case; 29] = [
     Case {
         files: &[("top.v", "a\n`include \"m.v\"\nb"), ("m.v", "x\ny\n")],
         defines: &[],
@@ -310,6 +345,23 @@ const SOURCES: [Case; 28] = [
             (
                 "top.v",
                 "`include \"a.v\"\n`include \"a.v\"\n`include \"a.v\"\n`include \"a.v\"\n`include \"a.v\"\n`include \"a.v\"\n`include \"a.v\"\n`include \"a.v\"\n`include \"a.v\"\n`include \"a.v\"\n`include \"a.v\"\n`include \"a.v\"\n`include \"a.v\"\n`include \"a.v\"\n`include \"a.v\"\n`include \"a.v\"\n",
+            ),
+            (
+                "a.v",
+                "`include \"m.v\"\n`include \"m.v\"\n`include \"m.v\"\n`include \"m.v\"\n`include \"m.v\"\n`include \"m.v\"\n`include \"m.v\"\n`include \"m.v\"\n`include \"m.v\"\n`include \"m.v\"\n`include \"m.v\"\n`include \"m.v\"\n`include \"m.v\"\n`include \"m.v\"\n`include \"m.v\"\n`include \"m.v\"\n",
+            ),
+            ("m.v", ""),
+        ],
+        defines: &[],
+        fail: &[],
+        answer: "refused 80 510:16 top.v",
+        faults: 0,
+    },
+    Case {
+        files: &[
+            (
+                "top.v",
+                "`include \"a.v\"\n`include \"a.v\"\n`include \"a.v\"\n`include \"a.v\"\n`include \"a.v\"\n`include \"a.v\"\n`include \"a.v\"\n`include \"a.v\"\n`include \"a.v\"\n`include \"a.v\"\n`include \"a.v\"\n`include \"a.v\"\n`include \"a.v\"\n`include \"a.v\"\n`include \"a.v\"\n`include \"none.v\"\n",
             ),
             (
                 "a.v",

@@ -35,7 +35,7 @@ tree_of_these text ts us tree are other = subst (λ (l : List Token). IsTreeOf t
 
 pub same_tree : (text : Expanded) (ts us : List Token) (tree other : Tree) → HasTree text ts tree → HasTree text us other → other ≡ tree
 same_tree text ts us tree other has has' =
-    one_tree (lexemes_of text.bytes ts) (spellings_of text.bytes ts) most_depth other tree (tree_of_these text ts us other has.are_tokens has') has.is_tree
+    one_tree (lexemes_of text.bytes ts) (spellings_of text.bytes ts) most_depth most_depth other tree (tree_of_these text ts us other has.are_tokens has') has.is_tree
 
 -- a source of the form over some tokens and tree of the text is one over these
 pub form_of_these : (text : Expanded) (r : Request) (ts us : List Token) (tree other : Tree) (source : Source) → HasTree text ts tree → HasTree text us other → IsFormOf text r us other source → IsFormOf text r ts tree source

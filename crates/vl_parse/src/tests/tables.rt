@@ -226,7 +226,7 @@ const MASTER_TREE: &str =
     {txn{=op if(transfer(3),if({transfer(3) done(2)},step))} if({<=psel <=penable while(@(;))})}";
 
 /// Sources without a tree, and the line of the token at which reading stops.
-pub const REFUSED: [(&str, u32); 81] = [
+pub const REFUSED: [(&str, u32); 82] = [
     ("\nx", 2),
     ("module m;\n", 1),
     ("module m;\ninitial\nbegin\n\n", 3),
@@ -332,6 +332,7 @@ pub const REFUSED: [(&str, u32); 81] = [
     ),
     ("module m; initial for (i[0]\n= 0; i; i = 1) ; endmodule", 1),
     ("module m; initial f(1)\n= 2; endmodule", 2),
+    ("module m; initial x = f(\n); endmodule", 2),
     ("module m; initial begin : b t;\nreg r; end endmodule", 2),
     ("module m; initial begin\nreg r; end endmodule", 2),
     ("module m; initial begin : b reg r\n= 1; end endmodule", 2),
@@ -365,7 +366,7 @@ pub const REFUSED: [(&str, u32); 81] = [
 ];
 
 /// A source in pieces of which the second and the fourth stand in one another, and how often they may within depth 128.
-pub const NESTED: [([&str; 5], u32); 44] = [
+pub static NESTED: [([&str; 5], u32); 60] = [
     (
         ["module m; initial ", "begin ", ";", " end", " endmodule"],
         127,
@@ -623,6 +624,97 @@ pub const NESTED: [([&str; 5], u32); 44] = [
             "a",
             ")",
             ":0] b); endmodule",
+        ],
+        127,
+    ),
+    (
+        [
+            "module m; initial for (i = 0; ",
+            "(",
+            "a",
+            ")",
+            "; i = 1) ; endmodule",
+        ],
+        126,
+    ),
+    (
+        [
+            "module m; initial for (i = 0; i; i = ",
+            "(",
+            "a",
+            ")",
+            ") ; endmodule",
+        ],
+        126,
+    ),
+    (
+        ["module m; initial while (", "(", "a", ")", ") ; endmodule"],
+        126,
+    ),
+    (
+        ["module m; initial repeat (", "(", "a", ")", ") ; endmodule"],
+        126,
+    ),
+    (
+        ["module m; initial x <= ", "(", "a", ")", "; endmodule"],
+        126,
+    ),
+    (
+        [
+            "module m; initial x[i +: ",
+            "(",
+            "a",
+            ")",
+            "] = 1; endmodule",
+        ],
+        124,
+    ),
+    (
+        ["module m; localparam A = ", "(", "a", ")", "; endmodule"],
+        127,
+    ),
+    (
+        ["module m; integer i = ", "(", "a", ")", "; endmodule"],
+        127,
+    ),
+    (["module m; reg r = ", "(", "a", ")", "; endmodule"], 127),
+    (["module m; reg [", "(", "a", ")", ":0] r; endmodule"], 127),
+    (["module m; n u(", "(", "a", ")", "); endmodule"], 127),
+    (
+        ["module m; n #(.A(", "(", "a", ")", ")) u(); endmodule"],
+        127,
+    ),
+    (
+        ["module m(input [", "(", "a", ")", ":0] a); endmodule"],
+        127,
+    ),
+    (
+        [
+            "module m #(parameter [",
+            "(",
+            "a",
+            ")",
+            ":0] A = 1); endmodule",
+        ],
+        127,
+    ),
+    (
+        [
+            "module m; task t; input [0:",
+            "(",
+            "a",
+            ")",
+            "] b; ; endtask endmodule",
+        ],
+        127,
+    ),
+    (
+        [
+            "module m; function f; input [",
+            "(",
+            "a",
+            ")",
+            ":0] b; ; endfunction endmodule",
         ],
         127,
     ),
