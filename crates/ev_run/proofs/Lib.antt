@@ -1,7 +1,8 @@
 pub mod Acting
 pub mod Outputs
-pub mod Targets
+pub mod Parts
 pub mod Lookups
+pub mod Calling
 pub mod ByKind
 pub mod Waking
 pub mod Netting

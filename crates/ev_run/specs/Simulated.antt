@@ -6,7 +6,8 @@ use Rattle.xt_bits.specs.Word.{Word, word}
 use Rattle.el_design.specs.Plain.{Forever, FlatNet, Flat}
 use Rattle.el_design.specs.Value as values
 use Rattle.el_design.specs.Queue as queue
-use Rattle.el_design.specs.Queue.{scene_of, net_aim}
+use Rattle.el_design.specs.Queue.{net_aim}
+use Rattle.el_design.specs.Function.{call_to}
 use Rattle.el_design.specs.Store as stores
 use Rattle.el_design.specs.Stack as stacks
 use Rattle.xt_bits.specs.Trace as traces
@@ -36,7 +37,7 @@ abbrev pub flat_seen : Scene → Flat
 flat_seen s = flat_of s.design.now
 
 abbrev pub scene_seen : Scene → values.Scene
-scene_seen s = scene_of (flat_of s.design.now) s.store.now s.nets.now
+scene_seen s = record { call = call_to (flat_of s.design.now) s.calls; nets = s.nets.now; store = s.store.now }
 
 -- a spot and a write
 abbrev pub spot_seen : spots.Spot → stores.Spot

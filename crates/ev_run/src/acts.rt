@@ -12,8 +12,9 @@ ghost use Rattle.ev_run.specs.Simulated.{flat_seen, scene_seen, work_seen, stack
 
 use crate::operators::{Trouble, number};
 use crate::stacks::{Work, below_mark, settle};
-use crate::values::{Scene, index_of, stored, value};
-use crate::writes::{Write, copies_to, put_all, variable_writes, writes_of};
+use crate::targets::{copies_to, variable_writes, writes_of};
+use crate::values::{Scene, has_label, stored, turn_count, value};
+use crate::writes::{Write, put_all};
 use el_design::{Arm, Import, Port, Stmt, TExpr, Target};
 use sqlite_items::Items;
 use std::alloc::Global;
@@ -161,30 +162,6 @@ fn branch<'a>(
     };
     process.stack.insert(0, Work::Do(chosen))?;
     ran(at, Vec::new(alloc), process, budget)
-}
-
-/// One of the labels is equal to the expression.
-fn has_label(
-    alloc: Global,
-    scene: &Scene,
-    on: &TExpr,
-    labels: &[TExpr],
-    budget: u64,
-) -> Result<bool, Trouble>
-    ensures { IfOk result (λ b. b ≡ assigns.has_label (flat_seen scene.now) (scene_seen scene.now) (expr_of on.now) (map expr_of labels.now)) }
-{
-    match labels {
-        [] => Ok(false),
-        [label, rest @ ..] => {
-            let x = value(alloc, scene, on, budget)?;
-            let y = value(alloc, scene, label, budget)?;
-            if x.value() == y.value() {
-                Ok(true)
-            } else {
-                has_label(alloc, scene, on, rest, budget)
-            }
-        }
-    }
 }
 
 /// The first arm with an equal label, else the default.
@@ -355,12 +332,11 @@ fn turn<'a>(
     ran(at, Vec::new(alloc), process, budget)
 }
 
-/// The count of a `repeat`: none where it is negative.
+/// The count of a `repeat`.
 fn count_of(alloc: Global, scene: &Scene, count: &TExpr, budget: u64) -> Result<u128, Trouble>
     ensures { IfOk result (λ n. n ≡ assigns.count_of (flat_seen scene.now) (scene_seen scene.now) (expr_of count.now)) }
 {
-    let count = index_of(alloc, scene, count, budget)?;
-    Ok(if count < 0 { 0 } else { count as u128 })
+    Ok(turn_count(value(alloc, scene, count, budget)?, count.signed))
 }
 
 fn start_repeat<'a>(
@@ -492,6 +468,7 @@ fn copied_out(
                 let store = store_after(alloc, scene.store, writes.as_slice())?;
                 let after = Scene {
                     design: scene.design,
+                    calls: scene.calls,
                     nets: scene.nets,
                     store: store.as_slice(),
                 };
@@ -692,6 +669,7 @@ fn outputs_written(
                 let store = store_after(alloc, scene.store, writes.as_slice())?;
                 let after = Scene {
                     design: scene.design,
+                    calls: scene.calls,
                     nets: scene.nets,
                     store: store.as_slice(),
                 };

@@ -8,7 +8,7 @@ use crate::acts::act;
 use crate::nets::net_aim;
 use crate::operators::Trouble;
 use crate::queue::{Config, Event, has_update, has_value, is_quiet, scene};
-use crate::values::Scene;
+use crate::values::scene_of;
 use crate::writes::put_all;
 use el_design::Design;
 use std::alloc::Global;
@@ -26,11 +26,7 @@ fn take_run<'a>(
     if at >= config.procs.len() {
         return Ok(false);
     }
-    let scene = Scene {
-        design,
-        nets: config.nets.as_slice(),
-        store: config.store.as_slice(),
-    };
+    let scene = scene_of(design, config.nets.as_slice(), config.store.as_slice());
     match act(alloc, &scene, &mut config.procs[at], budget)? {
         None => Ok(false),
         Some(acted) => {

@@ -1,16 +1,18 @@
-//! A plain simulator whose answers are the definitions: slow, and for tests. It gives up at a design that isn't
-//! sound, and where its budget is used up.
+//! A plain simulator whose answers are the definitions, calls of functions too: slow, and a tool for tests. It may give
+//! up in place of an answer: without memory, at a design that isn't sound, and where its budget is used up.
 #![tactic(auto)]
 
 mod acts;
 mod edges;
 mod events;
+mod functions;
 mod nets;
 mod operators;
 mod queue;
 mod runs;
 mod stacks;
 mod starts;
+mod targets;
 #[cfg(test)]
 mod tests;
 mod traces;
@@ -26,9 +28,9 @@ pub use queue::{Config, Event, any_stuck, has_update, has_value, is_quiet, ready
 pub use runs::{Played, run};
 pub use stacks::{Work, below_mark, is_waiting, quiet_step, settle, start_stack, wake};
 pub use starts::{next, start};
+pub use targets::{copies_to, variable_writes, writes_of};
 pub use traces::{Ending, Seen, rest_seen, starved_seen};
-pub use values::{Scene, lowest_bit, place_of, stored, value, variable_lsb, word_at};
-pub use writes::{
-    Spot, Write, copies_to, put_all, put_write, spots, total_width, variable_width,
-    variable_writes, writes_of, writes_to,
+pub use values::{
+    Scene, lowest_bit, place_of, scene_of, spots, stored, value, variable_lsb, word_at,
 };
+pub use writes::{Spot, Write, put_all, put_write, total_width, variable_width, writes_to};

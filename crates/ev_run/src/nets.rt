@@ -6,7 +6,7 @@ ghost use Rattle.el_design.specs.View.{flat_of, net_of};
 ghost use Rattle.ev_run.specs.Simulated.{flat_seen, scene_seen, pin_in, aims_of};
 
 use crate::operators::{Trouble, number};
-use crate::values::{Scene, value};
+use crate::values::{Scene, scene_of, value};
 use el_design::{Design, Net};
 use sqlite_items::Items;
 use std::alloc::Global;
@@ -121,10 +121,6 @@ fn aims_at(
 ) -> Result<Vec<Bits>, Trouble>
     ensures { IfOk result (λ v. v.items ≡ aims_of (flat_of design.now) row.now (queue.scene_of (flat_of design.now) store.now nets.now) 0 (flat_of design.now).nets) }
 {
-    let scene = Scene {
-        design,
-        nets,
-        store,
-    };
+    let scene = scene_of(design, nets, store);
     aims(alloc, &scene, row, 0, design.nets.as_slice(), budget)
 }

@@ -12,7 +12,7 @@ use crate::acts::{Process, Reply};
 use crate::nets::net_aim;
 use crate::operators::Trouble;
 use crate::stacks::Work;
-use crate::values::{Scene, word_at};
+use crate::values::{Scene, scene_of, word_at};
 use el_design::{Design, Net, Stmt};
 use sqlite_items::Items;
 use std::alloc::Global;
@@ -46,11 +46,7 @@ pub fn scene<'d, 's>(design: &'d Design, config: &'s Config) -> Scene<'d, 's>
     ensures design { result.design.now ≡ design.now }
     ensures nets { result.nets.now ≡ config.now.nets }
 {
-    Scene {
-        design,
-        nets: config.nets.as_slice(),
-        store: config.store.as_slice(),
-    }
+    scene_of(design, config.nets.as_slice(), config.store.as_slice())
 }
 
 /// The net with this number has its value.

@@ -18,14 +18,14 @@ use std::alloc::Global;
 use xt_bits::Bits;
 
 /// How many words a variable has.
-fn word_count(var: &Var) -> u32
+pub fn word_count(var: &Var) -> u32
     ensures { result ≡ max 1 var.now.words }
 {
     if var.words == 0 { 1 } else { var.words }
 }
 
 /// So many words with one value.
-fn filled(alloc: Global, words: u32, x: Bits) -> Result<Items<Bits>, Trouble>
+pub fn filled(alloc: Global, words: u32, x: Bits) -> Result<Items<Bits>, Trouble>
     ensures { IfOk result (λ all. all ≡ replicate words x) }
 {
     let mut all = Vec::new(alloc);

@@ -2,8 +2,8 @@
 use super::operators::number;
 use crate::{Ending, Event, Replies, Reply, Seen, Trouble, run};
 use el_design::{
-    Arm, BinOp, Design, Import, Kind, Net, Pick, Pin, Port, Proc, Source, Stmt, TExpr, Target,
-    Task, UnOp, Var,
+    Arm, BinOp, Design, Func, Import, Kind, Net, Pick, Pin, Port, Proc, Source, Stmt, TExpr,
+    Target, Task, UnOp, Var,
 };
 use sqlite_items::{Boxed, Items};
 use std::alloc::Global;
@@ -78,6 +78,10 @@ enum Make {
     /// A task with its mark, and one with an output formal too.
     Task(u32),
     TaskTo(u32, u32),
+    /// A function: its first formal, and its result, whose number is behind those of the formals.
+    Function(u32, u32),
+    /// A call of a function with so many arguments: its width and the function.
+    Apply(u32, u32, usize),
     Always,
     Initial,
 }
@@ -384,6 +388,30 @@ impl Maker {
         Ok(())
     }
 
+    fn function(&mut self, first: u32, answer: u32) -> Result<(), Fail> {
+        let mut ins = Items::new(self.alloc);
+        for formal in first..answer {
+            ins.push(formal)?;
+        }
+        let body = self.stmt()?;
+        self.design.funcs.push(Func {
+            ins,
+            locals: Items::new(self.alloc),
+            result: answer,
+            body,
+        })?;
+        Ok(())
+    }
+
+    fn apply(&mut self, width: u32, function: u32, count: usize) -> Result<(), Fail> {
+        let mut args = Vec::new(self.alloc);
+        for _argument in 0..count {
+            let e = self.expr()?;
+            args.insert(0, e)?;
+        }
+        self.push(width, false, Kind::Call(function, Items::from_vec(args)))
+    }
+
     fn process(&mut self, always: bool) -> Result<(), Fail> {
         let body = self.stmt()?;
         self.design.procs.push(Proc {
@@ -406,6 +434,7 @@ impl Maker {
             Make::Import => self.import(),
             Make::Task(mark) => self.task(mark, None),
             Make::TaskTo(mark, var) => self.task(mark, Some(var)),
+            Make::Function(first, answer) => self.function(first, answer),
             Make::Always => self.process(true),
             Make::Initial => self.process(false),
             _ => self.states(step),
@@ -452,6 +481,7 @@ impl Maker {
             Make::Unary(op, width) => self.unary(op, width),
             Make::Binary(op, width) => self.binary(op, width),
             Make::Braces(width) => self.braces(width),
+            Make::Apply(width, function, count) => self.apply(width, function, count),
             Make::Resize(width) => self.resize(width, false),
             Make::SignedResize(width) => self.resize(width, true),
             _ => Err(Fail::from("no such step")),
@@ -1085,6 +1115,401 @@ fn loops(rt: HostRuntime) -> Result<(), Fail> {
     assert_eq!(rt; three.as_slice(), [1, 3].as_slice());
     let none = seen(alloc, &NO_TURNS, &[0], &[], 0)?;
     assert_eq!(rt; none.as_slice(), [1, 1].as_slice());
+    Ok(())
+}
+
+/// The functions
+/// `function [7:0] f(input [7:0] a); integer i; begin f = a; for (i = 0; i < 3; i = i + 1) f = f + f; end endfunction`,
+/// `function [7:0] g(input [7:0] a); begin g = a; repeat (4) g = g + 8'd3; end endfunction`,
+/// `function [7:0] h(input [7:0] a); h = f(a) + 8'd1; endfunction`,
+/// `function [7:0] k(input [7:0] a); reg [7:0] n; begin n = n + a; k = n; end endfunction`,
+/// `function [7:0] c(input [7:0] a); case (a) 8'd1: c = 8'd10; 8'd2: c = 8'd20; endcase endfunction`,
+/// `function [7:0] m(input [7:0] a, input [7:0] b); if (a < b) m = a; else m = b; endfunction` and
+/// `function [7:0] r(input [7:0] a); r = r(a) + 8'd1; endfunction`, which no rule admits.
+static FUNCTIONS: [Make; 84] = [
+    Make::Reg(8, 0),
+    Make::Input(8),
+    Make::Out(0),
+    Make::Reg(8, 0),
+    Make::Reg(8, 0),
+    Make::Signed(32, 0),
+    Make::Var(8, 1),
+    Make::Set(2),
+    Make::Num(32, 0),
+    Make::SignedVar(32, 3),
+    Make::Num(32, 3),
+    Make::Binary(BinOp::Lt, 1),
+    Make::SignedVar(32, 3),
+    Make::Num(32, 1),
+    Make::Binary(BinOp::Add, 32),
+    Make::Var(8, 2),
+    Make::Var(8, 2),
+    Make::Binary(BinOp::Add, 8),
+    Make::Set(2),
+    Make::For(3),
+    Make::Block(2),
+    Make::Function(1, 2),
+    Make::Reg(8, 0),
+    Make::Reg(8, 0),
+    Make::Var(8, 4),
+    Make::Set(5),
+    Make::Num(32, 4),
+    Make::Var(8, 5),
+    Make::Num(8, 3),
+    Make::Binary(BinOp::Add, 8),
+    Make::Set(5),
+    Make::Repeat,
+    Make::Block(2),
+    Make::Function(4, 5),
+    Make::Reg(8, 0),
+    Make::Reg(8, 0),
+    Make::Var(8, 6),
+    Make::Apply(8, 0, 1),
+    Make::Num(8, 1),
+    Make::Binary(BinOp::Add, 8),
+    Make::Set(7),
+    Make::Function(6, 7),
+    Make::Reg(8, 0),
+    Make::Reg(8, 0),
+    Make::Reg(8, 0),
+    Make::Var(8, 10),
+    Make::Var(8, 8),
+    Make::Binary(BinOp::Add, 8),
+    Make::Set(10),
+    Make::Var(8, 10),
+    Make::Set(9),
+    Make::Block(2),
+    Make::Function(8, 9),
+    Make::Reg(8, 0),
+    Make::Reg(8, 0),
+    Make::Var(8, 11),
+    Make::Num(8, 1),
+    Make::Num(8, 10),
+    Make::Set(12),
+    Make::Num(8, 2),
+    Make::Num(8, 20),
+    Make::Set(12),
+    Make::Case,
+    Make::Function(11, 12),
+    Make::Reg(8, 0),
+    Make::Reg(8, 0),
+    Make::Reg(8, 0),
+    Make::Var(8, 13),
+    Make::Var(8, 14),
+    Make::Binary(BinOp::Lt, 1),
+    Make::Var(8, 13),
+    Make::Set(15),
+    Make::Var(8, 14),
+    Make::Set(15),
+    Make::If,
+    Make::Function(13, 15),
+    Make::Reg(8, 0),
+    Make::Reg(8, 0),
+    Make::Var(8, 16),
+    Make::Apply(8, 6, 1),
+    Make::Num(8, 1),
+    Make::Binary(BinOp::Add, 8),
+    Make::Set(17),
+    Make::Function(16, 17),
+];
+
+/// `initial y = f(8'h05);`
+static ONE_CALL: [Make; 4] = [
+    Make::Num(8, 5),
+    Make::Apply(8, 0, 1),
+    Make::Set(0),
+    Make::Initial,
+];
+
+/// `initial y = f(f(8'h05));`
+static NESTED_CALL: [Make; 5] = [
+    Make::Num(8, 5),
+    Make::Apply(8, 0, 1),
+    Make::Apply(8, 0, 1),
+    Make::Set(0),
+    Make::Initial,
+];
+
+/// `initial y = g(8'd1);`
+static REPEATING: [Make; 4] = [
+    Make::Num(8, 1),
+    Make::Apply(8, 1, 1),
+    Make::Set(0),
+    Make::Initial,
+];
+
+/// `initial y = h(8'd2);`
+static CHAIN: [Make; 4] = [
+    Make::Num(8, 2),
+    Make::Apply(8, 2, 1),
+    Make::Set(0),
+    Make::Initial,
+];
+
+/// `initial y = k(8'd3) + k(8'd4);`
+static AT_ZERO: [Make; 7] = [
+    Make::Num(8, 3),
+    Make::Apply(8, 3, 1),
+    Make::Num(8, 4),
+    Make::Apply(8, 3, 1),
+    Make::Binary(BinOp::Add, 8),
+    Make::Set(0),
+    Make::Initial,
+];
+
+/// `initial begin y = k(8'd3); y = n; end`, where n is the local of k.
+static OWN_STORE: [Make; 7] = [
+    Make::Num(8, 3),
+    Make::Apply(8, 3, 1),
+    Make::Set(0),
+    Make::Var(8, 10),
+    Make::Set(0),
+    Make::Block(2),
+    Make::Initial,
+];
+
+/// `initial y = c(8'd2);` and `initial y = c(8'd3);`
+static LABEL: [Make; 4] = [
+    Make::Num(8, 2),
+    Make::Apply(8, 4, 1),
+    Make::Set(0),
+    Make::Initial,
+];
+
+static NO_LABEL: [Make; 4] = [
+    Make::Num(8, 3),
+    Make::Apply(8, 4, 1),
+    Make::Set(0),
+    Make::Initial,
+];
+
+/// `initial y = m(8'd9, 8'd4);`
+static LESSER: [Make; 5] = [
+    Make::Num(8, 9),
+    Make::Num(8, 4),
+    Make::Apply(8, 5, 2),
+    Make::Set(0),
+    Make::Initial,
+];
+
+/// `initial y = r(8'd9);`, whose calls nest seven deep, which is how many functions there are.
+static CIRCLE: [Make; 4] = [
+    Make::Num(8, 9),
+    Make::Apply(8, 6, 1),
+    Make::Set(0),
+    Make::Initial,
+];
+
+/// `assign w = f(d);`, which is shown too.
+static IN_A_NET: [Make; 4] = [
+    Make::Net(8, 1),
+    Make::Apply(8, 0, 1),
+    Make::Wire(8),
+    Make::OutNet(2),
+];
+
+/// `always @(posedge clk) if (k(d) == 8'd3) y <= 8'd1; else y <= 8'd2;`
+static IN_A_TEST: [Make; 12] = [
+    Make::Wait,
+    Make::Net(8, 1),
+    Make::Apply(8, 3, 1),
+    Make::Num(8, 3),
+    Make::Binary(BinOp::Eq, 1),
+    Make::Num(8, 1),
+    Make::SetLater(0),
+    Make::Num(8, 2),
+    Make::SetLater(0),
+    Make::If,
+    Make::Block(2),
+    Make::Always,
+];
+
+#[test]
+fn functions(rt: HostRuntime) -> Result<(), Fail> {
+    let alloc = rt.alloc();
+    let rows: [(&[Make], &[u64], &[u64]); 12] = [
+        (&ONE_CALL, &[0], &[1, 0x28]),
+        (&NESTED_CALL, &[0], &[1, 0x40]),
+        (&REPEATING, &[0], &[1, 13]),
+        (&CHAIN, &[0], &[1, 17]),
+        (&AT_ZERO, &[0], &[1, 7]),
+        (&OWN_STORE, &[0], &[1, 0]),
+        (&LABEL, &[0], &[1, 20]),
+        (&NO_LABEL, &[0], &[1, 0]),
+        (&LESSER, &[0], &[1, 4]),
+        (&CIRCLE, &[0], &[1, 7]),
+        (&IN_A_NET, &[1, 2], &[1, 0, 8, 1, 0, 16]),
+        (&IN_A_TEST, &[3, 3, 4], &[1, 0, 1, 1, 1, 2]),
+    ];
+    for (uses, values, trace) in rows {
+        let mut steps = FUNCTIONS.to_vec(alloc)?;
+        steps.extend_from_slice(uses)?;
+        let shown = seen(alloc, steps.as_slice(), values, &[], 0)?;
+        assert_eq!(rt; shown.as_slice(), trace);
+    }
+    Ok(())
+}
+
+/// `initial x <= 1;` and `initial x <= 2;`, and the same with `initial z <= 2;`
+static TWO_WRITERS: [Make; 9] = [
+    Make::Reg(8, 0),
+    Make::Reg(8, 0),
+    Make::Out(0),
+    Make::Num(8, 1),
+    Make::SetLater(0),
+    Make::Initial,
+    Make::Num(8, 2),
+    Make::SetLater(0),
+    Make::Initial,
+];
+
+static ONE_WRITER_EACH: [Make; 9] = [
+    Make::Reg(8, 0),
+    Make::Reg(8, 0),
+    Make::Out(0),
+    Make::Num(8, 1),
+    Make::SetLater(0),
+    Make::Initial,
+    Make::Num(8, 2),
+    Make::SetLater(1),
+    Make::Initial,
+];
+
+/// `initial x = 1;` and `initial y = x;`, and the same with `initial x <= 1;`
+static READ_ACROSS: [Make; 9] = [
+    Make::Reg(8, 0),
+    Make::Reg(8, 0),
+    Make::Out(1),
+    Make::Num(8, 1),
+    Make::Set(0),
+    Make::Initial,
+    Make::Var(8, 0),
+    Make::Set(1),
+    Make::Initial,
+];
+
+static READ_LATER: [Make; 9] = [
+    Make::Reg(8, 0),
+    Make::Reg(8, 0),
+    Make::Out(1),
+    Make::Num(8, 1),
+    Make::SetLater(0),
+    Make::Initial,
+    Make::Var(8, 0),
+    Make::Set(1),
+    Make::Initial,
+];
+
+/// `assign n = x;`, `initial x = 1;` and `initial y = n;`, and the same with `initial x <= 1;`
+static READ_OVER_NET: [Make; 11] = [
+    Make::Reg(8, 0),
+    Make::Reg(8, 0),
+    Make::Out(1),
+    Make::Var(8, 0),
+    Make::Wire(8),
+    Make::Num(8, 1),
+    Make::Set(0),
+    Make::Initial,
+    Make::Net(8, 1),
+    Make::Set(1),
+    Make::Initial,
+];
+
+static READ_LATER_OVER_NET: [Make; 11] = [
+    Make::Reg(8, 0),
+    Make::Reg(8, 0),
+    Make::Out(1),
+    Make::Var(8, 0),
+    Make::Wire(8),
+    Make::Num(8, 1),
+    Make::SetLater(0),
+    Make::Initial,
+    Make::Net(8, 1),
+    Make::Set(1),
+    Make::Initial,
+];
+
+// Each design breaks one rule on races alone, and has another trace under each of two picks; its neighbour, which
+// breaks none, has one under all.
+#[test]
+fn races(rt: HostRuntime) -> Result<(), Fail> {
+    let alloc = rt.alloc();
+    let rows: [(&[Make], [(u64, u64); 2], &[Make], u64); 3] = [
+        (&TWO_WRITERS, [(0, 1), (1, 2)], &ONE_WRITER_EACH, 1),
+        (&READ_ACROSS, [(0, 0), (2, 1)], &READ_LATER, 0),
+        (&READ_OVER_NET, [(2, 0), (1, 1)], &READ_LATER_OVER_NET, 0),
+    ];
+    for (racing, picks, neighbour, one) in rows {
+        for (pick, value) in picks {
+            let trace = seen(alloc, racing, &[0], &[], pick)?;
+            assert_eq!(rt; trace.as_slice(), [1, value].as_slice(), "pick {pick}");
+        }
+        for pick in 0..10 {
+            let trace = seen(alloc, neighbour, &[0], &[], pick)?;
+            assert_eq!(rt; trace.as_slice(), [1, one].as_slice(), "pick {pick}");
+        }
+    }
+    Ok(())
+}
+
+/// The last statement of `initial begin i <= 200; for (i = 0; i != 3; i = i + 1) if (i == 0) @(posedge clk); end`, or
+/// of the same with `j <= 200;`
+static COUNTS_ON: [Make; 16] = [
+    Make::Num(8, 0),
+    Make::Var(8, 0),
+    Make::Num(8, 3),
+    Make::Binary(BinOp::Ne, 1),
+    Make::Var(8, 0),
+    Make::Num(8, 1),
+    Make::Binary(BinOp::Add, 8),
+    Make::Var(8, 0),
+    Make::Num(8, 0),
+    Make::Binary(BinOp::Eq, 1),
+    Make::Wait,
+    Make::Null,
+    Make::If,
+    Make::For(0),
+    Make::Block(2),
+    Make::Initial,
+];
+
+/// How many events the second edge of a run has.
+fn events_in_second(alloc: Global, steps: &[Make], pick: u64) -> Result<usize, Fail> {
+    let design = made(alloc, steps)?;
+    let rows = rows_of(alloc, &design, &[0, 0])?;
+    let replies = all_replies(alloc, &design, &[])?;
+    let played = run(alloc, &design, rows.as_slice(), &replies, pick, 10_000)?;
+    match played.plays.as_slice() {
+        [_, second] => Ok(second.len()),
+        _ => Err(Fail::from("no second edge")),
+    }
+}
+
+// A process that assigns a variable in both ways has one trace, whatever the pick. But an update then changes the
+// variable of a loop between two edges, so the second has 168 events, where U is 68.
+#[test]
+fn both_kinds(rt: HostRuntime) -> Result<(), Fail> {
+    let alloc = rt.alloc();
+    for (var, shown, events) in [(0, [1, 200, 1, 0], 168), (1, [1, 0, 1, 3], 8)] {
+        let mut steps = Vec::new(alloc);
+        for step in [
+            Make::Reg(8, 0),
+            Make::Reg(8, 0),
+            Make::Out(0),
+            Make::Num(8, 200),
+            Make::SetLater(var),
+        ] {
+            steps.push(step)?;
+        }
+        for step in COUNTS_ON {
+            steps.push(step)?;
+        }
+        for pick in 0..10 {
+            let trace = seen(alloc, steps.as_slice(), &[0, 0], &[], pick)?;
+            assert_eq!(rt; trace.as_slice(), shown.as_slice(), "pick {pick}");
+            assert_eq!(rt; events_in_second(alloc, steps.as_slice(), pick)?, events);
+        }
+    }
     Ok(())
 }
 

@@ -1,15 +1,12 @@
-//! What an assignment writes.
-ghost use Rattle.std.specs.Prelude.{◌≡◌, ℕ, List, [], ◌∷◌, ◌++◌, ◌-◌, suc, map, get_or, set, IfOk, OnOk, drop, pos, ◌-ℤ◌};
-ghost use Rattle.xt_bits.specs.Word.{integer_of};
+//! Where bits are written, and what variables hold after it.
+ghost use Rattle.std.specs.Prelude.{◌≡◌, [], ◌∷◌, ◌-◌, suc, map, get_or, set, IfOk, OnOk};
 ghost use Rattle.el_design.specs.Assign as spec;
 ghost use Rattle.el_design.specs.Store as stores;
-ghost use Rattle.el_design.specs.View.{expr_of, range_of, lvalue_of, flat_of};
-ghost use Rattle.el_design.specs.Plain.{ToVariable};
-ghost use Rattle.ev_run.specs.Simulated.{flat_seen, scene_seen, spot_seen, write_seen};
+ghost use Rattle.el_design.specs.View.{range_of, flat_of};
+ghost use Rattle.ev_run.specs.Simulated.{spot_seen, write_seen};
 
-use crate::operators::{Trouble, extended, selected};
-use crate::values::{Scene, index_of, less, lowest_bit, place_of, variable_lsb};
-use el_design::{Design, Pick, TExpr, Target};
+use crate::operators::{Trouble, selected};
+use el_design::{Design, Pick};
 use sqlite_items::Items;
 use std::alloc::Global;
 use xt_bits::Bits;
@@ -78,7 +75,8 @@ pub fn variable_width(design: &Design, var: u32) -> Result<u32, Trouble>
     }
 }
 
-fn range_width(pick: &Pick) -> Result<u32, Trouble>
+/// How many bits a range takes.
+pub fn range_width(pick: &Pick) -> Result<u32, Trouble>
     ensures { IfOk result (λ x. x ≡ spec.range_width (range_of pick.now)) }
 {
     match pick {
@@ -98,34 +96,8 @@ fn part_width(high: u32, low: u32) -> Result<u32, Trouble>
     }
 }
 
-/// The bit of the word at which a range of a variable begins.
-fn range_low(
-    alloc: Global,
-    scene: &Scene,
-    var: u32,
-    pick: &Pick,
-    left: u64,
-) -> Result<i128, Trouble>
-    ensures { IfOk result (λ x. x ≡ spec.range_low (flat_seen scene.now) (scene_seen scene.now) var (range_of pick.now)) }
-{
-    let low = lowest_bit(alloc, scene, pick, left)?;
-    less(low, variable_lsb(scene.design, var)?)
-}
-
-fn place_at(
-    alloc: Global,
-    scene: &Scene,
-    var: u32,
-    index: &TExpr,
-    left: u64,
-) -> Result<u128, Trouble>
-    ensures { IfOk result (λ x. x ≡ spec.place_at (flat_seen scene.now) (scene_seen scene.now) var (expr_of index.now)) }
-{
-    let index = index_of(alloc, scene, index, left)?;
-    place_of(scene.design, var, index)
-}
-
-fn whole(design: &Design, var: u32, place: u128) -> Result<Spot, Trouble>
+/// A whole word of a variable.
+pub fn whole(design: &Design, var: u32, place: u128) -> Result<Spot, Trouble>
     ensures { IfOk result (λ x. spot_seen x ≡ stores.Whole var place (stores.width_of (flat_of design.now) var)) }
 {
     Ok(Spot::Whole {
@@ -135,82 +107,13 @@ fn whole(design: &Design, var: u32, place: u128) -> Result<Spot, Trouble>
     })
 }
 
-fn within(
-    alloc: Global,
-    scene: &Scene,
-    var: u32,
-    place: u128,
-    pick: &Pick,
-    left: u64,
-) -> Result<Spot, Trouble>
-    ensures { IfOk result (λ x. spot_seen x ≡ stores.Within var place (spec.range_low (flat_seen scene.now) (scene_seen scene.now) var (range_of pick.now)) (spec.range_width (range_of pick.now))) }
-{
-    let low = range_low(alloc, scene, var, pick, left)?;
-    Ok(Spot::Within {
-        var,
-        place,
-        low,
-        width: range_width(pick)?,
-    })
-}
-
-fn one(alloc: Global, spot: Spot) -> Result<Vec<Spot>, Trouble>
+/// One spot alone.
+pub fn one(alloc: Global, spot: Spot) -> Result<Vec<Spot>, Trouble>
     ensures { IfOk result (λ v. v.items ≡ spot ∷ []) }
 {
     let mut all = Vec::new(alloc);
     all.push(spot)?;
     Ok(all)
-}
-
-fn word_spot(
-    alloc: Global,
-    scene: &Scene,
-    var: u32,
-    index: &TExpr,
-    left: u64,
-) -> Result<Spot, Trouble>
-    ensures { IfOk result (λ x. spot_seen x ≡ stores.Whole var (spec.place_at (flat_seen scene.now) (scene_seen scene.now) var (expr_of index.now)) (stores.width_of (flat_seen scene.now) var)) }
-{
-    let place = place_at(alloc, scene, var, index, left)?;
-    whole(scene.design, var, place)
-}
-
-fn word_part_spot(
-    alloc: Global,
-    scene: &Scene,
-    var: u32,
-    index: &TExpr,
-    pick: &Pick,
-    left: u64,
-) -> Result<Spot, Trouble>
-    ensures { IfOk result (λ x. spot_seen x ≡ stores.Within var (spec.place_at (flat_seen scene.now) (scene_seen scene.now) var (expr_of index.now)) (spec.range_low (flat_seen scene.now) (scene_seen scene.now) var (range_of pick.now)) (spec.range_width (range_of pick.now))) }
-{
-    let place = place_at(alloc, scene, var, index, left)?;
-    within(alloc, scene, var, place, pick, left)
-}
-
-/// The spots of a target, from left to right, with all its indexes evaluated.
-#[tactic(auto, using(crate::proofs::Targets::spots_parts))]
-pub fn spots(alloc: Global, scene: &Scene, target: &Target, left: u64) -> Result<Vec<Spot>, Trouble>
-    ensures { IfOk result (λ v. map spot_seen v.items ≡ spec.spots (flat_seen scene.now) (scene_seen scene.now) (lvalue_of target.now)) }
-{
-    match target {
-        Target::Var(v) => one(alloc, whole(scene.design, *v, 0)?),
-        Target::Part(v, pick) => one(alloc, within(alloc, scene, *v, 0, pick, left)?),
-        Target::Word(v, index) => one(alloc, word_spot(alloc, scene, *v, index.get(), left)?),
-        Target::WordPart(v, index, pick) => one(
-            alloc,
-            word_part_spot(alloc, scene, *v, index.get(), pick, left)?,
-        ),
-        Target::Concat(parts) => {
-            let mut all = Vec::new(alloc);
-            for part in parts.as_slice() {
-                let mut more = spots(alloc, scene, part, left)?;
-                all.append(&mut more)?;
-            }
-            Ok(all)
-        }
-    }
 }
 
 /// A value cut up for the spots, the high bits for the first.
@@ -239,49 +142,6 @@ pub fn total_width(spots: &[Spot]) -> Result<u32, Trouble>
             spot.width().checked_add(more).ok_or(Trouble::Unsound)
         }
     }
-}
-
-/// The writes of a value to a target: what doesn't fit is cut.
-pub fn writes_of(
-    alloc: Global,
-    scene: &Scene,
-    target: &Target,
-    value: Bits,
-    left: u64,
-) -> Result<Vec<Write>, Trouble>
-    ensures { IfOk result (λ v. map write_seen v.items ≡ spec.writes_of (flat_seen scene.now) (scene_seen scene.now) (lvalue_of target.now) value) }
-{
-    let spots = spots(alloc, scene, target, left)?;
-    writes_to(alloc, spots.as_slice(), value)
-}
-
-/// The same of a value with its own width and sign: it is extended by its sign, or cut.
-pub fn copies_to(
-    alloc: Global,
-    scene: &Scene,
-    target: &Target,
-    value: Bits,
-    signed: bool,
-    left: u64,
-) -> Result<Vec<Write>, Trouble>
-    ensures { IfOk result (λ v. map write_seen v.items ≡ spec.copies_to (flat_seen scene.now) (scene_seen scene.now) (lvalue_of target.now) value signed) }
-{
-    let spots = spots(alloc, scene, target, left)?;
-    let value = extended(value, total_width(spots.as_slice())?, signed)?;
-    writes_to(alloc, spots.as_slice(), value)
-}
-
-/// The writes of a value to a variable.
-pub fn variable_writes(
-    alloc: Global,
-    scene: &Scene,
-    var: u32,
-    value: Bits,
-) -> Result<Vec<Write>, Trouble>
-    ensures { IfOk result (λ v. map write_seen v.items ≡ spec.writes_of (flat_seen scene.now) (scene_seen scene.now) (ToVariable var) value) }
-{
-    let spots = one(alloc, whole(scene.design, var, 0)?)?;
-    writes_to(alloc, spots.as_slice(), value)
 }
 
 /// The word after a write.

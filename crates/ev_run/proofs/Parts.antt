@@ -1,14 +1,18 @@
 -- The spots and writes of targets that have several parts.
-use Rattle.std.proofs.Common.{◌≡◌, ℕ, ◌+◌, ◌<◌, ◌≤◌, List, [], ◌∷◌, ◌++◌, map, take, length, get_or, refl, ap, sym, ◌∙◌, append_assoc}
+use Rattle.std.specs.Prelude.{Vec}
+use Rattle.std.specs.Global.{Global}
+use Rattle.std.proofs.Common.{◌≡◌, Result, Ok, Err, IfOk, ℕ, ◌+◌, ◌<◌, ◌≤◌, List, [], ◌∷◌, ◌++◌, map, take, length, get_or, refl, ap, sym, ◌∙◌, append_assoc}
 use Rattle.std.proofs.lemmas.List.{append-nil, map-append, take_more, take_all}
 use Rattle.el_design.specs.Plain.{Lvalue, Flat}
 use Rattle.el_design.specs.View.{parts_of, lvalue_of}
+use Rattle.el_design.specs.Store.{Spot}
 use Rattle.el_design.specs.Value.{Scene}
 use Rattle.el_design.specs.Assign.{spots}
 use Rattle.ev_run.specs.Simulated.{spot_seen}
 use Rattle.el_design.specs.declared.expressions.Target as target
 use Rattle.el_design.specs.declared.expressions.Target.{Target}
 use Rattle.ev_run.specs.declared.writes.Spot as code
+use Rattle.ev_run.specs.declared.operators.Trouble.{Trouble}
 use Rattle.el_design.proofs.Equations as equations
 
 -- the spots of the parts, one behind the other
@@ -34,3 +38,8 @@ pub spots_all : (d : Flat) (s : Scene) (e : Target) (ts : List Target) (i : ℕ)
     → map spot_seen seen ≡ spots d s (parts_of (map lvalue_of (take i ts))) → map spot_seen seen ≡ spots d s (lvalue_of e)
 spots_all d s e ts i seen is end h =
     h ∙ ap (λ xs. spots d s (parts_of (map lvalue_of xs))) (take_all i ts end) ∙ sym (ap (spots d s) (ap lvalue_of is ∙ equations.target_concat_is ts))
+
+-- one spot alone
+pub one_seen : (r : Result (Vec code.Spot Global) Trouble) (p : code.Spot) (ps : List Spot) → IfOk r (λ v. v.items ≡ p ∷ []) → spot_seen p ∷ [] ≡ ps → IfOk r (λ v. map spot_seen v.items ≡ ps)
+one_seen (Ok v) p ps h e = ap (map spot_seen) h ∙ e
+one_seen (Err x) p ps h e = tt
