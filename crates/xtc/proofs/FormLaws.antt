@@ -106,6 +106,10 @@ module _ (ls : List Lexeme) (names : List (List ℕ)) (top clock : List ℕ) (t 
       (process_found names m.at m.name m.port m.dir m.clock_name source.process m.block f.ports f.body m.is_always)
       ∙ parts_complete source f
 
+  -- a tree is one source of the form at most
+  pub one_source : (a b : Source) → IsForm ls names top clock t a → IsForm ls names top clock t b → a ≡ b
+  one_source a b f g = some_one (sym (form_complete a f) ∙ form_complete b g)
+
 -- ---- a source of the form is one for the compiler
 
 module _ (names : List (List ℕ)) (clock : List ℕ) (ins outs : List Port) where

@@ -96,14 +96,7 @@ pub record IsDesignText (d : Design) (bytes : List ℕ) : Type 0 where
 abbrev pub IsDesignOf : Request → List ℕ → Result Reading Stop → Type 0
 IsDesignOf r bytes told = IsOkAnd told (λ reading. (source : Source) × Accepts reading.text r source × IsDesignText (design_of source) bytes)
 
--- ---- what is answered
-
--- A status, with what is put out and the line that is noted. What is said of the source holds where the files tell what they hold.
-pub data Says (held : Option Held) : Option Request → Status → List ℕ → List ℕ → Type 0 where
-  usage : Says held None Usage [] (codes "usage\n")
-  read_fault : (r : Request) → Says held (Some r) ReadFault [] (codes "read fault\n")
-  refused : (r : Request) (rule line : ℕ) (name : List ℕ) → IfSome held (λ h. IsBroken r rule line name (expanded h r)) → Says held (Some r) Refused [] (refused_line rule name line)
-  done : (r : Request) (bytes : List ℕ) → IfSome held (λ h. IsDesignOf r bytes (expanded h r)) → Says held (Some r) Done bytes []
+-- ---- what is asked for
 
 -- the source of what was asked for comes to a name that isn't held, before a rule is broken
 abbrev pub IsMissed : Option Held → Option Request → Type 0
@@ -119,6 +112,18 @@ IsRefused held (Some r) = IsSomeAnd held (λ h. (rule line : ℕ) × (name : Lis
 abbrev pub IsAccepted : Option Held → Option Request → Type 0
 IsAccepted held None = ⊥
 IsAccepted held (Some r) = IsSomeAnd held (λ h. IsOkAnd (expanded h r) (λ reading. (source : Source) × Accepts reading.text r source))
+
+-- ---- what is answered; what is said of the source here holds where the files tell what they hold
+
+-- bytes are the text of a design of what was asked for
+abbrev pub IsDesignFor : Option Held → Option Request → List ℕ → Type 0
+IsDesignFor held asked bytes = IsSomeAnd asked (λ r. IfSome held (λ h. IsDesignOf r bytes (expanded h r)))
+
+-- a status, with the line that explains it; `faults` and `faults'` are what the files counted before and after
+pub data Explains (held : Option Held) (faults faults' : ℕ) : Option Request → Status → List ℕ → Type 0 where
+  usage : Explains held faults faults' None Usage (codes "usage\n")
+  read_fault : (r : Request) → IsMissed held (Some r) ⊎ HasFault faults faults' → Explains held faults faults' (Some r) ReadFault (codes "read fault\n")
+  refused : (r : Request) (rule line : ℕ) (name : List ℕ) → IfSome held (λ h. IsBroken r rule line name (expanded h r)) → Explains held faults faults' (Some r) Refused (refused_line rule name line)
 
 -- ---- the streams
 
@@ -148,24 +153,17 @@ Tells explained line old new status = ((status ≡ explained) × Took old new li
 abbrev pub Puts : List ℕ → Stream → Stream → Status → Type 0
 Puts text old new status = ((status ≡ Done) × Took old new text) ⊎ ((status ≡ WriteFault) × Failed old new text) ⊎ ((status ≡ Memory) × (new ≡ old))
 
--- what was said was written whole
-pub record IsSaid (held : Option Held) (asked : Option Request) (out out' notes notes' : Stream) (status : Status) : Type 0 where
-  pub text : List ℕ
-  pub line : List ℕ
-  pub says : Says held asked status text line
-  pub put : Took out out' text
-  pub noted : Took notes notes' line
+-- what was to be written failed: the text of a design on the output, with the notes as before, or a line on the notes, with the output as before
+pub data FailsToWrite (held : Option Held) (faults faults' : ℕ) (asked : Option Request) (out out' notes notes' : Stream) : Type 0 where
+  output : (design : List ℕ) → IsDesignFor held asked design → Failed out out' design → notes' ≡ notes → FailsToWrite held faults faults' asked out out' notes notes'
+  note : (status : Status) (line : List ℕ) → Explains held faults faults' asked status line → Failed notes notes' line → out' ≡ out → FailsToWrite held faults faults' asked out out' notes notes'
 
--- what was to be said failed to be written: the text of a design on the output, with the notes as before, or a line on the notes, with the output as before
-pub data FailsToWrite (held : Option Held) (asked : Option Request) (out out' notes notes' : Stream) : Type 0 where
-  output : (text : List ℕ) → Says held asked Done text [] → Failed out out' text → notes' ≡ notes → FailsToWrite held asked out out' notes notes'
-  note : (status : Status) (line : List ℕ) → Says held asked status [] line → Failed notes notes' line → out' ≡ out → FailsToWrite held asked out out' notes notes'
-
--- what stands on both streams at the end: without memory both are as before
-abbrev pub Leaves : Option Held → Option Request → Stream → Stream → Stream → Stream → Status → Type 0
-Leaves held asked out out' notes notes' Memory = (out' ≡ out) × (notes' ≡ notes)
-Leaves held asked out out' notes notes' WriteFault = FailsToWrite held asked out out' notes notes'
-Leaves held asked out out' notes notes' status = IsSaid held asked out out' notes notes' status
+-- what stands on both streams at the end: after Done a design on the output; without memory both are as before; after each other status its line on the notes
+abbrev pub Leaves : Option Held → ℕ → ℕ → Option Request → Stream → Stream → Stream → Stream → Status → Type 0
+Leaves held faults faults' asked out out' notes notes' Done = (design : List ℕ) × IsDesignFor held asked design × Took out out' design × (notes' ≡ notes)
+Leaves held faults faults' asked out out' notes notes' Memory = (out' ≡ out) × (notes' ≡ notes)
+Leaves held faults faults' asked out out' notes notes' WriteFault = FailsToWrite held faults faults' asked out out' notes notes'
+Leaves held faults faults' asked out out' notes notes' status = (line : List ℕ) × Explains held faults faults' asked status line × Took notes notes' line × (out' ≡ out)
 
 -- the names that were asked for are the first of those that the source's expansion loads, in order; words that are no command ask for none
 abbrev pub Asks : Held → Option Request → List (List ℕ) → List (List ℕ) → Type 0

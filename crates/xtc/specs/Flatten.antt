@@ -25,7 +25,7 @@ use Rattle.xtc.specs.declared.source.Term.TheVariants.{Input, Output, Number}
 use Rattle.xtc.specs.declared.source.Step.{Step}
 use Rattle.xtc.specs.declared.source.Step.TheVariants.{Wait, Assign}
 
--- the place of everything: line 0, which stands for the file as a whole
+-- Every place of the form's design is line 0, which stands for the file as a whole: no trace has a place in it, and the line of rule 61 comes from the token.
 abbrev pub whole_file : Place
 whole_file = record { file = 0; line = 0; instance = 0 }
 

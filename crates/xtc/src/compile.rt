@@ -31,10 +31,11 @@ use xt_bits::Bits;
 
 /// The netlist of a source.
 ///
-/// If its process waits, the netlist has the source's pins and does what the source does, whatever the order of events.
+/// It has the source's pins. If the source's process waits, it does what the source does, whatever the order of events.
 pub fn compile(alloc: Global, source: &Source) -> Result<Netlist, NoMemory>
     requires { IsSource source.now }
-    ensures { IfOk result (λ n. waits source.now ≡ true → IsCompiled (design_of source.now) n) }
+    ensures outside { IfOk result (HasOutside (design_of source.now)) }
+    ensures compiled { IfOk result (λ n. waits source.now ≡ true → IsCompiled (design_of source.now) n) }
 {
     let design = flatten(alloc, source)?;
     netlist(alloc, &design)

@@ -42,10 +42,12 @@ pub fn read(
 ) -> Result<Source, FormError>
     requires { AreTokens text.now.bytes tokens.now }
 
-    // What is answered is the source of the form that the tree is, and it is no other.
+    // What is answered is the source of the form that the tree is, and it is no other: a tree is one source at most.
     ensures form { IfOk result (IsForm (lexemes_of text.now.bytes tokens.now) (spellings_of text.now.bytes tokens.now) top.now clock.now tree.now) }
     ensures only { (source : Source) → IsForm (lexemes_of text.now.bytes tokens.now) (spellings_of text.now.bytes tokens.now) top.now clock.now tree.now source →
         MatchResult result (λ found. found ≡ source) (λ error. error ≡ errors.Memory) }
+    ensures one { (s t : Source) → IsForm (lexemes_of text.now.bytes tokens.now) (spellings_of text.now.bytes tokens.now) top.now clock.now tree.now s →
+        IsForm (lexemes_of text.now.bytes tokens.now) (spellings_of text.now.bytes tokens.now) top.now clock.now tree.now t → s ≡ t }
     ensures source { IfOk result IsSource }
 {
     told(alloc, text, tokens, tree, top, clock)

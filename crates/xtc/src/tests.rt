@@ -1,15 +1,14 @@
-//! What no clause says: that calls succeed with ample memory, where the form's limits lie, and what a design does.
-ghost use Rattle.std.specs.Prelude.{◌≡◌, IfOk};
-ghost use Rattle.nt_core.specs.Fitting.{IsState};
+//! What no clause says: that calls succeed with ample memory, where the form's limits lie, and what designs do.
+
+mod designs;
+mod master;
 
 use crate::status::Status;
 use crate::top::xtc;
-use nt_core::{Inputs, Netlist, State, evaluate, is_row, tick};
-use nt_read::read;
+use master::MASTER;
 use std::alloc::Global;
 use std::test::Fail;
 use xt_base::{MemFiles, MemSink, Words};
-use xt_bits::Bits;
 
 const TWO_WAITS: &[u8] =
     b"module m(input clk, input [7:0] d, output reg [7:0] q); always begin @(posedge clk); q <= d; @(posedge clk); q <= q + 8'd1; end endmodule";
@@ -38,7 +37,7 @@ const INCLUDING: &[&str] = &["compile", "top.v", "m", "clk"];
 const AMPLE: usize = 100_000;
 
 /// Words and what stands under `m1.v`, with the status and the note.
-static ANSWERS: [(&[&str], &[u8], Status, &[u8]); 25] = [
+static ANSWERS: [(&[&str], &[u8], Status, &[u8]); 26] = [
     (COMPILE, TWO_WAITS, Status::Done, b""),
     (INCLUDING, TWO_WAITS, Status::Done, b""),
     (
@@ -139,6 +138,12 @@ static ANSWERS: [(&[&str], &[u8], Status, &[u8]); 25] = [
         Status::Refused,
         b"refused 90 m1.v 0\n",
     ),
+    (
+        &["compile", "apb.v", "apb_master", "pclk"],
+        b"",
+        Status::Refused,
+        b"refused 90 apb.v 0\n",
+    ),
 ];
 
 /// A run in which loads or writes fail.
@@ -159,7 +164,7 @@ struct Faulty {
     faults: (u64, u64, u64),
 }
 
-static FAULTS: [Faulty; 9] = [
+static FAULTS: [Faulty; 11] = [
     Faulty {
         words: COMPILE,
         source: TWO_WAITS,
@@ -250,6 +255,27 @@ static FAULTS: [Faulty; 9] = [
         left: (b"", b"refused 20 "),
         faults: (0, 0, 1),
     },
+    // an output that nothing is written to counts no fault
+    Faulty {
+        words: &[],
+        source: TWO_WAITS,
+        loads: &[],
+        out: (AMPLE, &[0]),
+        notes: (AMPLE, &[]),
+        status: Status::Usage,
+        left: (b"", b"usage\n"),
+        faults: (0, 0, 0),
+    },
+    Faulty {
+        words: COMPILE,
+        source: NO_WAIT,
+        loads: &[],
+        out: (AMPLE, &[0]),
+        notes: (AMPLE, &[]),
+        status: Status::Refused,
+        left: (b"", b"refused 61 m1.v 3\n"),
+        faults: (0, 0, 0),
+    },
 ];
 
 fn words_of(alloc: Global, list: &[&str]) -> Result<Words, Fail> {
@@ -260,11 +286,12 @@ fn words_of(alloc: Global, list: &[&str]) -> Result<Words, Fail> {
     Ok(words)
 }
 
-/// Files with a source under `m1.v`, and one that includes it.
+/// Files with a source under `m1.v`, one that includes it, and the bus master.
 fn files_of(alloc: Global, source: &[u8], loads: &[u64]) -> Result<MemFiles, Fail> {
     let mut files = MemFiles::new(alloc, loads)?;
     files.put("m1.v", source)?;
     files.put("top.v", b"`include \"m1.v\"\n")?;
+    files.put("apb.v", MASTER)?;
     Ok(files)
 }
 
@@ -312,9 +339,9 @@ fn faults_of_files_and_streams(rt: HostRuntime) -> Result<(), Fail> {
     Ok(())
 }
 
-/// What compiling the source leaves on the output, with ample room, and the status.
-fn compiled(alloc: Global, source: &[u8]) -> Result<(MemSink, Status), Fail> {
-    let words = words_of(alloc, COMPILE)?;
+/// What these words leave on the output, with ample room, and the status.
+fn compiled(alloc: Global, words: &[&str], source: &[u8]) -> Result<(MemSink, Status), Fail> {
+    let words = words_of(alloc, words)?;
     let mut files = files_of(alloc, source, &[])?;
     let mut out = MemSink::new(alloc, AMPLE, &[])?;
     let mut notes = MemSink::new(alloc, AMPLE, &[])?;
@@ -369,63 +396,8 @@ fn limits_of_the_form(rt: HostRuntime) -> Result<(), Fail> {
         (wide_sum(alloc, 17)?, Status::Refused),
     ];
     for (i, (source, expected)) in cases.iter().enumerate() {
-        let (_, status) = compiled(alloc, source)?;
+        let (_, status) = compiled(alloc, COMPILE, source)?;
         assert!(rt; status == *expected, "{i}");
     }
-    Ok(())
-}
-
-/// The value on an output port of a design with one input pin of eight bits, of which port 0 ends the edge.
-fn shown(
-    alloc: Global,
-    netlist: &Netlist,
-    state: &State,
-    pin: u64,
-    port: usize,
-) -> Result<Option<u64>, Fail>
-    requires { IsState netlist.now state.now }
-{
-    let inputs = Inputs::silent(alloc, vec![in alloc; Bits::new(8, pin)]?);
-    if !is_row(netlist, inputs.row.as_slice()) {
-        return Ok(None);
-    }
-    let values = evaluate(alloc, netlist, &inputs, state)?;
-    let node = netlist.drives.get(port).copied();
-    Ok(
-        node.and_then(|node| values.get(node as usize))
-            .map(|value| value.value()),
-    )
-}
-
-/// The state after a tick with this value on the pin.
-fn ticked(alloc: Global, netlist: &Netlist, state: State, pin: u64) -> Result<State, Fail>
-    requires { IsState netlist.now state }
-    ensures { IfOk result (λ after. IsState netlist.now after) }
-{
-    let inputs = Inputs::silent(alloc, vec![in alloc; Bits::new(8, pin)]?);
-    if !is_row(netlist, inputs.row.as_slice()) {
-        return Err(Fail::from("row"));
-    }
-    Ok(tick(alloc, netlist, &inputs, state)?)
-}
-
-// Each edge takes one tick, in which port 0 is up; then the output stands on port 1.
-#[test]
-fn a_written_design_runs_from_wait_to_wait(rt: HostRuntime) -> Result<(), Fail> {
-    let alloc = rt.alloc();
-    let (out, _) = compiled(alloc, TWO_WAITS)?;
-    let (again, _) = compiled(alloc, TWO_WAITS)?;
-    assert!(rt; out.bytes() == again.bytes());
-    let netlist = read(alloc, out.bytes())?;
-    let state = State::start(alloc, &netlist)?;
-    assert_eq!(rt; shown(alloc, &netlist, &state, 0, 0)?, Some(1));
-    let state = ticked(alloc, &netlist, state, 0)?;
-    assert_eq!(rt; shown(alloc, &netlist, &state, 0, 1)?, Some(0));
-    let state = ticked(alloc, &netlist, state, 5)?;
-    assert_eq!(rt; shown(alloc, &netlist, &state, 5, 1)?, Some(5));
-    let state = ticked(alloc, &netlist, state, 9)?;
-    assert_eq!(rt; shown(alloc, &netlist, &state, 9, 1)?, Some(6));
-    let state = ticked(alloc, &netlist, state, 7)?;
-    assert_eq!(rt; shown(alloc, &netlist, &state, 7, 1)?, Some(7));
     Ok(())
 }

@@ -1,5 +1,5 @@
 //! The top call: from the words of a command line to what is written and the status.
-ghost use Rattle.std.specs.Prelude.{◌≡◌, ◌≢◌, ◌≤◌, ◌<◌, ◌⊎◌, true, ℕ, List, Option, Some, None, Err, IfErr, IfOk, IfSome, IsErr, IsSomeAnd, length, slice_get};
+ghost use Rattle.std.specs.Prelude.{◌≡◌, ◌≢◌, ◌≤◌, ◌<◌, ◌⊎◌, true, ℕ, List, Option, Some, None, Err, IfErr, IfOk, IfSome, IsErr, length, slice_get};
 ghost use Rattle.xt_base.specs.Outside.{Held, HasFault, appended};
 ghost use Rattle.xt_base.specs.declared.refusals.Refusal.{Refusal};
 ghost use Rattle.vl_pre.specs.Faults.{IsText};
@@ -8,7 +8,7 @@ ghost use Rattle.vl_lex.specs.declared.kinds.Token.{Token};
 ghost use Rattle.nt_core.specs.Conditions.{IsNetlist};
 ghost use Rattle.nt_core.specs.Text.{text_of};
 ghost use Rattle.xtc.specs.declared.source.Source.{Source};
-ghost use Rattle.xtc.specs.Answer.{on, expanded, Leaves, Puts, Asks, Accepts, Breaks, HasTree, IsAccepted, IsDesignOf, IsFormOf, IsMissed, IsRefusal, IsRefused, not_of_form, without_wait};
+ghost use Rattle.xtc.specs.Answer.{on, expanded, Leaves, Puts, Asks, Accepts, Breaks, HasTree, IsAccepted, IsDesignFor, IsFormOf, IsMissed, IsRefusal, IsRefused, not_of_form, without_wait};
 ghost use Rattle.xtc.specs.Command.{Request, request_of, asked_by};
 ghost use Rattle.xtc.specs.Compiled.{IsCompiled};
 ghost use Rattle.xtc.specs.Flatten.{design_of};
@@ -51,15 +51,15 @@ const WHOLE_FILE: Place = Place {
 ///   the netlist's, each edge in one tick (`IsCompiled`).
 /// - `leaves`: what stands on both streams after each status. After Done that design and no note; after Usage, Refused and
 ///   ReadFault no design and the one line that explains it, which for Refused names the first rule that the source breaks,
-///   with its file and line (for rule 20 that of some token); after WriteFault a prefix of such a text on the stream that counted a fault; after Memory
-///   nothing.
+///   with its file and line (for rule 20 that of some token); after WriteFault a prefix of such a design on the output or of
+///   such a line on the notes, whichever counted a fault, and nothing on the other; after Memory nothing.
 /// - `usage`, `missed`, `refused`, `accepted`: which status comes for words that are no command, and for a source that
 ///   comes to a file that isn't held, that breaks a rule, and that breaks none. By `leaves` and `read_fault` Usage, Refused
 ///   and Done come nowhere else, where the files tell what they hold.
 /// - `read_fault`, `write_fault`, `fault`: these two statuses come only for such a file or where a fault was counted, and
 ///   where one was counted on `files`, none but these two and Memory comes.
-/// - `asked`, `held`, `never_falls`: the files that are asked for are those that the source names, in order; they still
-///   hold what they held.
+/// - `asked`, `held`: the files that are asked for are those that the source names, in order; they still hold what they held.
+/// - `never_falls` and its like: no count of faults falls.
 ///
 /// Want of memory is free: no clause says when Memory comes.
 pub fn xtc<F: Files, S: Sink>(
@@ -69,8 +69,8 @@ pub fn xtc<F: Files, S: Sink>(
     out: &mut S,
     notes: &mut S,
 ) -> Status
-    ensures done { result ≡ Status.Done → IsSomeAnd (request_of words.now) (λ r. (design : List ℕ) × (S.written out.new ≡ appended (S.written out.old) design) × IfSome (F.held files.old) (λ h. IsDesignOf r design (expanded h r))) }
-    ensures leaves { Leaves (F.held files.old) (request_of words.now) (on (S.written out.old) (S.faults out.old)) (on (S.written out.new) (S.faults out.new)) (on (S.written notes.old) (S.faults notes.old)) (on (S.written notes.new) (S.faults notes.new)) result }
+    ensures done { result ≡ Status.Done → (design : List ℕ) × IsDesignFor (F.held files.old) (request_of words.now) design × (S.written out.new ≡ appended (S.written out.old) design) }
+    ensures leaves { Leaves (F.held files.old) (F.faults files.old) (F.faults files.new) (request_of words.now) (on (S.written out.old) (S.faults out.old)) (on (S.written out.new) (S.faults out.new)) (on (S.written notes.old) (S.faults notes.old)) (on (S.written notes.new) (S.faults notes.new)) result }
     ensures usage { request_of words.now ≡ None → (result ≡ Status.Usage) ⊎ (result ≡ Status.WriteFault) ⊎ (result ≡ Status.Memory) }
     ensures missed { IsMissed (F.held files.old) (request_of words.now) → (result ≡ Status.ReadFault) ⊎ (result ≡ Status.WriteFault) ⊎ (result ≡ Status.Memory) }
     ensures refused { IsRefused (F.held files.old) (request_of words.now) → (result ≡ Status.Refused) ⊎ (result ≡ Status.ReadFault) ⊎ (result ≡ Status.WriteFault) ⊎ (result ≡ Status.Memory) }
@@ -81,6 +81,8 @@ pub fn xtc<F: Files, S: Sink>(
     ensures asked { (h : Held) → F.held files.old ≡ Some h → Asks h (request_of words.now) (F.asked files.old) (F.asked files.new) }
     ensures held { F.held files.new ≡ F.held files.old }
     ensures never_falls { F.faults files.old ≤ F.faults files.new }
+    ensures output_never_falls { S.faults out.old ≤ S.faults out.new }
+    ensures notes_never_falls { S.faults notes.old ≤ S.faults notes.new }
 {
     match Command::of(alloc, words) {
         Ok(Some(command)) => compile_file(alloc, &command, files, out, notes),
@@ -97,7 +99,7 @@ fn compile_file<F: Files, S: Sink>(
     out: &mut S,
     notes: &mut S,
 ) -> Status
-    ensures leaves { Leaves (F.held files.old) (Some (asked_by command.now)) (on (S.written out.old) (S.faults out.old)) (on (S.written out.new) (S.faults out.new)) (on (S.written notes.old) (S.faults notes.old)) (on (S.written notes.new) (S.faults notes.new)) result }
+    ensures leaves { Leaves (F.held files.old) (F.faults files.old) (F.faults files.new) (Some (asked_by command.now)) (on (S.written out.old) (S.faults out.old)) (on (S.written out.new) (S.faults out.new)) (on (S.written notes.old) (S.faults notes.old)) (on (S.written notes.new) (S.faults notes.new)) result }
     ensures missed { IsMissed (F.held files.old) (Some (asked_by command.now)) → (result ≡ Status.ReadFault) ⊎ (result ≡ Status.WriteFault) ⊎ (result ≡ Status.Memory) }
     ensures refused { IsRefused (F.held files.old) (Some (asked_by command.now)) → (result ≡ Status.Refused) ⊎ (result ≡ Status.ReadFault) ⊎ (result ≡ Status.WriteFault) ⊎ (result ≡ Status.Memory) }
     ensures accepted { IsAccepted (F.held files.old) (Some (asked_by command.now)) → (result ≡ Status.Done) ⊎ (result ≡ Status.ReadFault) ⊎ (result ≡ Status.WriteFault) ⊎ (result ≡ Status.Memory) }
@@ -106,6 +108,8 @@ fn compile_file<F: Files, S: Sink>(
     ensures asked { (h : Held) → F.held files.old ≡ Some h → Asks h (Some (asked_by command.now)) (F.asked files.old) (F.asked files.new) }
     ensures held { F.held files.new ≡ F.held files.old }
     ensures never_falls { F.faults files.old ≤ F.faults files.new }
+    ensures output_never_falls { S.faults out.old ≤ S.faults out.new }
+    ensures notes_never_falls { S.faults notes.old ≤ S.faults notes.new }
 {
     match expand(alloc, files, command.file(), command.defines()) {
         Ok(text) => compile_text(alloc, &text, command, out, notes),
@@ -130,10 +134,12 @@ fn compile_text<S: Sink>(
     out: &mut S,
     notes: &mut S,
 ) -> Status
-    ensures leaves { (held : Option Held) → IfSome held (λ h. IsText text.now (expanded h (asked_by command.now))) → Leaves held (Some (asked_by command.now)) (on (S.written out.old) (S.faults out.old)) (on (S.written out.new) (S.faults out.new)) (on (S.written notes.old) (S.faults notes.old)) (on (S.written notes.new) (S.faults notes.new)) result }
+    ensures leaves { (held : Option Held) (faults faults' : ℕ) → IfSome held (λ h. IsText text.now (expanded h (asked_by command.now))) → Leaves held faults faults' (Some (asked_by command.now)) (on (S.written out.old) (S.faults out.old)) (on (S.written out.new) (S.faults out.new)) (on (S.written notes.old) (S.faults notes.old)) (on (S.written notes.new) (S.faults notes.new)) result }
     ensures refused { (refusal : Refusal) → Breaks text.now (asked_by command.now) refusal → (result ≡ Status.Refused) ⊎ (result ≡ Status.WriteFault) ⊎ (result ≡ Status.Memory) }
     ensures accepted { (source : Source) → Accepts text.now (asked_by command.now) source → (result ≡ Status.Done) ⊎ (result ≡ Status.WriteFault) ⊎ (result ≡ Status.Memory) }
     ensures not_read { result ≢ Status.ReadFault }
+    ensures output_never_falls { S.faults out.old ≤ S.faults out.new }
+    ensures notes_never_falls { S.faults notes.old ≤ S.faults notes.new }
 {
     match netlist(alloc, text, command) {
         Ok(netlist) => deliver(alloc, &netlist, out),
@@ -233,6 +239,7 @@ fn no_wait(text: &Text, tokens: &Tokens, process: usize) -> Refusal
 fn deliver<S: Sink>(alloc: Global, netlist: &Netlist, out: &mut S) -> Status
     ensures netlist { IsNetlist netlist.now }
     ensures puts { Puts (text_of netlist.now) (on (S.written out.old) (S.faults out.old)) (on (S.written out.new) (S.faults out.new)) result }
+    ensures never_falls { S.faults out.old ≤ S.faults out.new }
 {
     let _nodes = &netlist.nodes;
     match write(alloc, netlist, out) {

@@ -1,5 +1,5 @@
 use Rattle.vl_expr.specs.Lexemes.{lexemes_of, spellings_of}
-use Rattle.xtc.proofs.FormLaws.{told_form, told_only, told_source}
+use Rattle.xtc.proofs.FormLaws.{one_source, told_form, told_only, told_source}
 use Rattle.xtc.proofs.reader.read.Goals as goal
 
 pub returns-clause-form : goal.returns-clause-form
@@ -9,6 +9,9 @@ returns-clause-form c =
 pub returns-clause-only : goal.returns-clause-only
 returns-clause-only c =
     told_only (lexemes_of c.args.text.now.bytes c.args.tokens.now) (spellings_of c.args.text.now.bytes c.args.tokens.now) c.args.top.now c.args.clock.now c.args.tree.now c.told.result c.told.ensures
+
+pub returns-clause-one : goal.returns-clause-one
+returns-clause-one c = one_source (lexemes_of c.args.text.now.bytes c.args.tokens.now) (spellings_of c.args.text.now.bytes c.args.tokens.now) c.args.top.now c.args.clock.now c.args.tree.now
 
 pub returns-clause-source : goal.returns-clause-source
 returns-clause-source c =

@@ -7,20 +7,23 @@ use Rattle.xtc.specs.declared.status.Status.TheVariants as statuses
 use Rattle.xtc.specs.Answer.{on, read_fault}
 use Rattle.xtc.specs.Command.{asked_by}
 use Rattle.xtc.specs.Note.{refused_line}
-use Rattle.xtc.proofs.Leaving.{leaves_of_tells, pre_says, accepted_text, or_read_fault}
+use Rattle.xtc.proofs.Leaving.{leaves_of_tells, pre_explains, accepted_text, or_read_fault}
 use Rattle.xtc.proofs.top.compile_file.Goals as goal
 
 pub returns-in-Err-Refused-clause-leaves : goal.returns-in-Err-Refused-clause-leaves
 returns-in-Err-Refused-clause-leaves g c =
-    leaves_of_tells (g.F.Files.held c.args.files.now) (Some (asked_by c.args.command.now)) statuses.Refused (refused_line c.in-Err-Refused.refusal.rule.0 (string_bytes c.in-Err-Refused.name) c.in-Err-Refused.refusal.place.line)
+    leaves_of_tells (g.F.Files.held c.args.files.now) (g.F.Files.faults c.args.files.now) (g.F.Files.faults c.expand.new.files) (Some (asked_by c.args.command.now)) statuses.Refused (refused_line c.in-Err-Refused.refusal.rule.0 (string_bytes c.in-Err-Refused.name) c.in-Err-Refused.refusal.place.line)
     (on (g.S.Sink.written c.args.out.now) (g.S.Sink.faults c.args.out.now)) (on (g.S.Sink.written c.args.notes.now) (g.S.Sink.faults c.args.notes.now)) (on (g.S.Sink.written c.tell.new.notes) (g.S.Sink.faults c.tell.new.notes)) c.tell.result
-    (pre_says (g.F.Files.held c.args.files.now) (asked_by c.args.command.now) c.file.result.now c.defines.result.now c.in-Err-Refused.refusal (string_bytes c.in-Err-Refused.name) c.file.ensures c.defines.ensures (let fault : IsFault (faults.Refused c.in-Err-Refused.refusal c.in-Err-Refused.name) (g.F.Files.held c.args.files.now) (λ h. source_expansion h c.file.result.now c.defines.result.now) (g.F.Files.faults c.args.files.now) (g.F.Files.faults c.expand.new.files) = subst (λ f. IsFault f (g.F.Files.held c.args.files.now) (λ h. source_expansion h c.file.result.now c.defines.result.now) (g.F.Files.faults c.args.files.now) (g.F.Files.faults c.expand.new.files)) c.in-Err-Refused.field-0-is c.in-Err-Refused.ensures.fault in fault.0)) (search rules)
+    (pre_explains (g.F.Files.held c.args.files.now) (g.F.Files.faults c.args.files.now) (g.F.Files.faults c.expand.new.files) (asked_by c.args.command.now) c.file.result.now c.defines.result.now c.in-Err-Refused.refusal (string_bytes c.in-Err-Refused.name) c.file.ensures c.defines.ensures (let fault : IsFault (faults.Refused c.in-Err-Refused.refusal c.in-Err-Refused.name) (g.F.Files.held c.args.files.now) (λ h. source_expansion h c.file.result.now c.defines.result.now) (g.F.Files.faults c.args.files.now) (g.F.Files.faults c.expand.new.files) = subst (λ f. IsFault f (g.F.Files.held c.args.files.now) (λ h. source_expansion h c.file.result.now c.defines.result.now) (g.F.Files.faults c.args.files.now) (g.F.Files.faults c.expand.new.files)) c.in-Err-Refused.field-0-is c.in-Err-Refused.ensures.fault in fault.0)) (search rules)
 
 pub returns-in-Err-ReadFault-clause-leaves : goal.returns-in-Err-ReadFault-clause-leaves
 returns-in-Err-ReadFault-clause-leaves g c =
-    leaves_of_tells (g.F.Files.held c.args.files.now) (Some (asked_by c.args.command.now)) statuses.ReadFault (codes "read fault\n")
+    leaves_of_tells (g.F.Files.held c.args.files.now) (g.F.Files.faults c.args.files.now) (g.F.Files.faults c.expand.new.files) (Some (asked_by c.args.command.now)) statuses.ReadFault (codes "read fault\n")
     (on (g.S.Sink.written c.args.out.now) (g.S.Sink.faults c.args.out.now)) (on (g.S.Sink.written c.args.notes.now) (g.S.Sink.faults c.args.notes.now)) (on (g.S.Sink.written c.tell-in-Err-ReadFault.new.notes) (g.S.Sink.faults c.tell-in-Err-ReadFault.new.notes)) c.tell-in-Err-ReadFault.result
-    (read_fault (asked_by c.args.command.now)) c.tell-in-Err-ReadFault.ensures.tells
+    (read_fault (asked_by c.args.command.now) (search rules)) c.tell-in-Err-ReadFault.ensures.tells
+
+pub returns-in-Ok-clause-leaves : goal.returns-in-Ok-clause-leaves
+returns-in-Ok-clause-leaves g c = c.compile_text.ensures.leaves (g.F.Files.held c.args.files.now) (g.F.Files.faults c.args.files.now) (g.F.Files.faults c.expand.new.files) (search rules)
 
 pub returns-in-Ok-clause-accepted : goal.returns-in-Ok-clause-accepted
 returns-in-Ok-clause-accepted g c = λ accepted.
