@@ -8,8 +8,8 @@ use Rattle.el_design.specs.Value.{Scene}
 use Rattle.el_design.specs.Stack.{Work, Do, End, Return, Test, Step, Turns, Await}
 use Rattle.ev_run.specs.Simulated.{acted_seen}
 use Rattle.ev_run.specs.declared.operators.Trouble.{Trouble}
-use Rattle.ev_run.specs.declared.acts.Acted as code
-use Rattle.ev_run.specs.declared.acts.Process as processes
+use Rattle.ev_run.specs.declared.processes.Acted as code
+use Rattle.ev_run.specs.declared.processes.Process as processes
 use Rattle.xt_bits.specs.Stimulus.{Reply}
 use Rattle.el_design.specs.Act.{Acted, Process, assigned, enabled, replied, act_do, act_top}
 

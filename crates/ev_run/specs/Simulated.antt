@@ -13,12 +13,12 @@ use Rattle.el_design.specs.Stack as stacks
 use Rattle.xt_bits.specs.Trace as traces
 use Rattle.xt_bits.specs.Stimulus as stimuli
 use Rattle.el_design.specs.Act as acts
-use Rattle.ev_run.specs.declared.acts.Reply as replies
-use Rattle.ev_run.specs.declared.acts.Call as calls
-use Rattle.ev_run.specs.declared.acts.Process as processes
-use Rattle.ev_run.specs.declared.acts.Did as dids
-use Rattle.ev_run.specs.declared.acts.Did.TheVariants as kinds
-use Rattle.ev_run.specs.declared.acts.Acted as acteds
+use Rattle.ev_run.specs.declared.processes.Reply as replies
+use Rattle.ev_run.specs.declared.processes.Call as calls
+use Rattle.ev_run.specs.declared.processes.Process as processes
+use Rattle.ev_run.specs.declared.processes.Did as dids
+use Rattle.ev_run.specs.declared.processes.Did.TheVariants as kinds
+use Rattle.ev_run.specs.declared.processes.Acted as acteds
 use Rattle.ev_run.specs.declared.stacks.Work as code
 use Rattle.ev_run.specs.declared.stacks.Work.TheVariants as works
 use Rattle.ev_run.specs.declared.writes.Spot as spots
@@ -28,7 +28,7 @@ use Rattle.ev_run.specs.declared.values.Scene.{Scene}
 use Rattle.ev_run.specs.declared.queue.Config as configs
 use Rattle.ev_run.specs.declared.queue.Event as events
 use Rattle.ev_run.specs.declared.queue.Event.TheVariants as event
-use Rattle.ev_run.specs.declared.acts.Replies as given
+use Rattle.ev_run.specs.declared.processes.Replies as given
 use Rattle.ev_run.specs.declared.traces.Ending as endings
 use Rattle.ev_run.specs.declared.traces.Ending.TheVariants as ending
 use Rattle.ev_run.specs.declared.traces.Seen as seens

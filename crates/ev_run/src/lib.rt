@@ -4,11 +4,15 @@
 
 mod acts;
 mod edges;
+mod enables;
 mod events;
 mod functions;
+mod loops;
 mod nets;
 mod operators;
+mod processes;
 mod queue;
+mod requests;
 mod runs;
 mod stacks;
 mod starts;
@@ -19,11 +23,12 @@ mod traces;
 mod values;
 mod writes;
 
-pub use acts::{Acted, Call, Did, Process, Replies, Reply, act};
+pub use acts::act;
 pub use edges::play;
 pub use events::take;
 pub use nets::{net_aim, settled_nets};
 pub use operators::Trouble;
+pub use processes::{Acted, Call, Did, Process, Replies, Reply};
 pub use queue::{Config, Event, any_stuck, has_update, has_value, is_quiet, ready, scene};
 pub use runs::{Played, run};
 pub use stacks::{Work, below_mark, is_waiting, quiet_step, settle, start_stack, wake};

@@ -8,9 +8,9 @@ ghost use Rattle.el_design.specs.Laws.{places_from, has_updates, is_empty};
 ghost use Rattle.el_design.specs.View.{flat_of, net_of, statement_of};
 ghost use Rattle.ev_run.specs.Simulated.{scene_seen, work_seen, reply_seen, process_seen, config_seen, event_seen, events_seen};
 
-use crate::acts::{Process, Reply};
 use crate::nets::net_aim;
 use crate::operators::Trouble;
+use crate::processes::{Process, Reply};
 use crate::stacks::Work;
 use crate::values::{Scene, scene_of, word_at};
 use el_design::{Design, Net, Stmt};

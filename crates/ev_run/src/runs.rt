@@ -5,9 +5,9 @@ ghost use Rattle.el_design.specs.Run as spec;
 ghost use Rattle.el_design.specs.View.{flat_of};
 ghost use Rattle.ev_run.specs.Simulated.{config_seen, rows_seen, stimulus_seen, events_seen, plays_seen, seen_seen, trace_seen};
 
-use crate::acts::Replies;
 use crate::edges::play;
 use crate::operators::Trouble;
+use crate::processes::Replies;
 use crate::queue::{Config, Event, any_stuck};
 use crate::starts::{next, start};
 use crate::traces::{Seen, rest_seen, starved_seen};

@@ -7,9 +7,9 @@ ghost use Rattle.el_design.specs.Store.{start_word};
 ghost use Rattle.el_design.specs.View.{flat_of, proc_of};
 ghost use Rattle.ev_run.specs.Simulated.{process_seen, reply_seen, config_seen, stimulus_seen};
 
-use crate::acts::{Process, Replies, Reply};
 use crate::nets::settled_nets;
 use crate::operators::{Trouble, number};
+use crate::processes::{Process, Replies, Reply};
 use crate::queue::Config;
 use crate::stacks::{start_stack, wake};
 use el_design::{Design, Proc, Var};

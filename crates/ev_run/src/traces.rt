@@ -5,8 +5,8 @@ ghost use Rattle.el_design.specs.Ticks as ticks;
 ghost use Rattle.el_design.specs.View.{flat_of};
 ghost use Rattle.ev_run.specs.Simulated.{process_seen, call_seen, config_seen, seen_seen};
 
-use crate::acts::{Call, Process};
 use crate::operators::Trouble;
+use crate::processes::{Call, Process};
 use crate::queue::Config;
 use crate::values::{stored, word_at};
 use crate::writes::variable_width;

@@ -3,7 +3,7 @@ use Rattle.el_design.specs.View.{lvalue_of}
 use Rattle.ev_run.specs.Simulated.{flat_seen, scene_seen, writes_seen, reply_seen}
 use Rattle.el_design.specs.Store.{put_all}
 use Rattle.ev_run.proofs.Outputs.{reply_step}
-use Rattle.ev_run.proofs.acts.+outputs_written.Goals as goal
+use Rattle.ev_run.proofs.requests.+outputs_written.Goals as goal
 
 pub returns-in_ok-more-in-len1-up-outs : goal.returns-in_ok-more-in-len1-up-outs
 returns-in_ok-more-in-len1-up-outs t c =

@@ -2,7 +2,7 @@ use Rattle.std.proofs.Common.{ap, ◌∙◌}
 use Rattle.ev_run.specs.Simulated.{flat_seen, scene_seen, writes_seen}
 use Rattle.el_design.specs.Store.{put_all}
 use Rattle.ev_run.proofs.Outputs.{out_step}
-use Rattle.ev_run.proofs.acts.+copied_out.Goals as goal
+use Rattle.ev_run.proofs.enables.+copied_out.Goals as goal
 
 pub returns-in_ok-more-in-len1-up-outs : goal.returns-in_ok-more-in-len1-up-outs
 returns-in_ok-more-in-len1-up-outs t c =
