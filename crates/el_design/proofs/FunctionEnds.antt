@@ -27,8 +27,8 @@ use Rattle.el_design.proofs.OrderRule.{split, IsShaped, shaped_all, empty_shaped
 use Rattle.el_design.proofs.OrderWalk.{Surely}
 use Rattle.el_design.proofs.OrderWrites.{WritesIn, writes_in, kept_all}
 use Rattle.el_design.proofs.OrderSane.{In}
-use Rattle.el_design.proofs.OrderDepth.{Apart, Below, few, slice_contains}
-use Rattle.el_design.proofs.OrderPlaces.{con_map}
+use Rattle.el_design.proofs.OrderDepth.{Apart, Below, few}
+use Rattle.el_design.proofs.OrderPlaces.{con_got, con_map}
 use Rattle.el_design.proofs.OrderLists.{con_head, con_nil, con_cases}
 use Rattle.el_design.proofs.Ways.{Ways, Past, is_zero, turning, repeating, fors, may, Mode, Lone, Any, Fixed, mode_of, all_ways}
 use Rattle.el_design.proofs.WaysPuts.{first_of, second_of, left_of, right_of, both_are, true_or_false, clash, is_counted}
@@ -463,7 +463,7 @@ module _ (d : Flat) (sound : IsSound d) (clean : IsClean d) where
       (bound_shaped g.ins args (empty_store d) (λ v c. All-contains (λ v. (w : ℕ) × IsPlainVariable d v w) (variables_of g) v (sound.funcs f g e).there (Contains-append_left (g.ins ++ g.locals) (g.result ∷ []) v (Contains-append_left g.ins g.locals v c))) (empty_shaped d))
     where
       here : Contains d.funcs g
-      here = slice_contains d.funcs f g e
+      here = con_got d.funcs f g e
 
       of_design : Contains (Rattle.el_design.specs.Sound.bodies_of d) g.body
       of_design = Contains-append_right (map (λ p. p.body) d.procs ++ map (λ t. t.body) d.tasks) (map (λ f. f.body) d.funcs) g.body (con_map (λ f. f.body) d.funcs g here)

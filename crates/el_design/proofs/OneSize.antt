@@ -1,15 +1,15 @@
--- U and S of a process are one number each: any two counts of turns agree where loops stand, and sizes look nowhere else.
-use Rattle.std.proofs.Common.{◌≡◌, ◌≤◌, ◌+◌, ◌*◌, ℕ, zero, suc, List, [], ◌∷◌, Option, Some, None, slice_get, length, refl, sym, ◌∙◌, ap, ap₂, arith}
+-- U and S of a process are one number each, and so is the size of all nets: any two counts of turns agree where loops stand, and sizes look nowhere else.
+use Rattle.std.proofs.Common.{◌≡◌, ◌≤◌, ◌+◌, ◌*◌, ℕ, zero, suc, List, [], ◌∷◌, Option, Some, None, map, sum, option_map, unwrap_or, slice_get, length, refl, sym, ◌∙◌, ap, ap₂, arith}
 use Rattle.std.proofs.Math.Path.{fun_ext}
 use Rattle.el_design.specs.Plain.{Expr, Lvalue, Statement, Null, Skip, Seq, Block, Assign, If, Case, Arm, For, While, Repeat, Forever, Wait, Enable, Disable, Host, FlatTask, FlatFunc, FlatProc, Flat}
 use Rattle.xt_base.specs.declared.refusals.Place.{Place}
-use Rattle.el_design.specs.InPlace.{Stands, itself, in_first, in_rest, in_block, in_named, in_then, in_else, in_case, in_arm, in_others, in_for, in_while, in_repeat, in_forever, in_task, LoopAt, loop_of_process, loop_of_function}
-use Rattle.el_design.specs.Sizes.{expr_size, exprs_size, target_size, targets_size, Counting, size_of, function_size, task_size, counting, CountsTurns, u_of, Stopping, stops_in, task_stops, stopping, CountsStops, s_of}
+use Rattle.el_design.specs.InPlace.{itself, in_first, in_rest, in_block, in_named, in_then, in_else, in_case, in_arm, in_others, in_for, in_while, in_repeat, in_forever, in_task, LoopAt, loop_of_process, loop_of_function}
+use Rattle.el_design.specs.Sizes.{expr_size, exprs_size, targets_size, Counting, size_of, function_size, task_size, counting, CountsTurns, u_of, Stopping, stops_in, task_stops, stopping, CountsStops, s_of, nets_size}
 use Rattle.el_design.specs.Walk.{IsUnrolled}
 use Rattle.el_design.specs.Rules.{IsCleanBefore}
 use Rattle.el_design.specs.Laws.{SizesAreOne}
 use Rattle.el_design.proofs.OrderRule.{stable}
-use Rattle.el_design.proofs.OrderDepth.{slice_contains}
+use Rattle.el_design.proofs.OrderPlaces.{con_got}
 use Rattle.el_design.proofs.Counts.{placed}
 
 -- ---- two counts agree where loops stand
@@ -88,7 +88,7 @@ module _ (d : Flat) (clean : IsCleanBefore d 13) (a b : List ℕ → Statement �
 
     function : (o : Option FlatFunc) (f : ℕ) → slice_get d.funcs f ≡ o → function_size (counting d a n) o ≡ function_size (counting d b n) o
     function None f e = refl
-    function (Some g) f e = size [] g.body (loop_of_function (slice_contains d.funcs f g e) itself)
+    function (Some g) f e = size [] g.body (loop_of_function (con_got d.funcs f g e) itself)
 
     task : (o : Option FlatTask) (marks : List ℕ) (at : Place) (t : ℕ) (ins : List Expr) (outs : List Lvalue) → LoopAt d marks (Enable at t ins outs) → slice_get d.tasks t ≡ o
         → task_size (counting d a n) marks o ≡ task_size (counting d b n) marks o
@@ -107,6 +107,10 @@ module _ (d : Flat) (clean : IsCleanBefore d 13) (a b : List ℕ → Statement �
       let n : ℕ = length d.tasks + length d.funcs in
       let l : LoopAt d [] process.body = loop_of_process {p = p} (record { process = process; is = e; stands = itself }) in
       ap (λ m. 1 + m) (size n (both_agree n) [] process.body l)
+
+  -- of what is in place, nets look at functions alone
+  nets_same : nets_size d a ≡ nets_size d b
+  nets_same = ap (λ calls. sum (map (λ net. unwrap_or (option_map (expr_size calls) net.value) 0) d.nets)) (both_agree (length d.tasks + length d.funcs)).0
 
   -- ---- waits and calls of the host
 
@@ -156,4 +160,8 @@ module _ (d : Flat) (clean : IsCleanBefore d 13) (a b : List ℕ → Statement �
   s_same p process e = ap (λ m. 1 + m) (stops (length d.tasks) (tasks_agree (length d.tasks)) [] process.body (loop_of_process {p = p} (record { process = process; is = e; stands = itself })))
 
 pub sizes_are_one : (d : Flat) → IsCleanBefore d 13 → SizesAreOne d
-sizes_are_one d clean = (λ a b h k. u_same d clean a b (turns_agree d a b h k), λ a b h k. s_same d clean a b (stops_agree d a b h k))
+sizes_are_one d clean = (
+  λ a b h k. u_same d clean a b (turns_agree d a b h k),
+  λ a b h k. s_same d clean a b (stops_agree d a b h k),
+  λ a b h k. nets_same d clean a b (turns_agree d a b h k),
+)

@@ -1,5 +1,5 @@
 -- Tasks in place: no chain of enables is longer than there are tasks.
-use Rattle.std.proofs.Common.{◌≡◌, ◌⊎◌, inl, inr, ℕ, zero, suc, ◌+◌, ◌<◌, ◌≤◌, ◌==◌, Bool, true, false, if◌then◌else◌, List, [], ◌∷◌, ◌++◌, Some, Contains, slice_get, map, length, refl, sym, ◌∙◌, ap, subst, arith, eq-eqb, T, eqb→eq}
+use Rattle.std.proofs.Common.{◌≡◌, ◌⊎◌, inl, inr, ℕ, zero, suc, ◌+◌, ◌<◌, ◌≤◌, ◌==◌, Bool, true, false, if◌then◌else◌, List, [], ◌∷◌, ◌++◌, Some, slice_get, map, length, refl, sym, ◌∙◌, ap, subst, arith, eq-eqb, T, eqb→eq}
 use Rattle.std.proofs.lemmas.List.Elements.{Contains-append_left, Contains-append_right}
 use Rattle.xt_bits.specs.Word.{Word, word}
 use Rattle.el_design.specs.Plain.{Expr, Number, Statement, FlatTask, FlatProc, Flat}
@@ -10,6 +10,7 @@ use Rattle.el_design.specs.Rules.{max_turns, IsClean}
 use Rattle.el_design.specs.Sound.{IsSound, IsStatement, ChooseBy}
 use Rattle.el_design.specs.Alone.{Doing, go, enabled_at, setting}
 use Rattle.el_design.proofs.OrderRule.{CountsEnough, IsShaped}
+use Rattle.el_design.proofs.OrderPlaces.{con_got, con_map}
 use Rattle.el_design.proofs.OrderSane.{In, IsUnder, Here, Stated, Claimed, TasksStated, sane}
 
 -- ---- numbers that are all different and below n are at most n
@@ -93,31 +94,15 @@ under_few d us u = few (length d.tasks) us (apart us u) (bounded us u)
 
 -- ---- the bodies of tasks keep what is sound
 
-pub slice_contains : {X : Type 0} (xs : List X) (i : ℕ) (x : X) → slice_get xs i ≡ Some x → Contains xs x
-slice_contains [] i x e = cc
-slice_contains (y ∷ ys) zero x e = subst (λ z. Contains (y ∷ ys) z) (some_is y x e) (Rattle.el_design.proofs.OrderLists.con_head y ys)
-  where
-    some_is : {X : Type 0} (a b : X) → Some a ≡ Some b → a ≡ b
-    some_is a b e = cc
-slice_contains (y ∷ ys) (suc i) x e = Rattle.el_design.proofs.OrderLists.con_tail y x ys (slice_contains ys i x e)
-
-con_map : {X Y : Type 0} (f : X → Y) (xs : List X) (x : X) → Contains xs x → Contains (map f xs) (f x)
-con_map f [] x c = absurd (Rattle.el_design.proofs.OrderLists.con_nil x c)
-con_map f (y ∷ ys) x c = go (Rattle.el_design.proofs.OrderLists.con_cases y x ys c) (con_map f ys x)
-  where
-    go : (y ≡ x) ⊎ Contains ys x → (Contains ys x → Contains (map f ys) (f x)) → Contains (map f (y ∷ ys)) (f x)
-    go (inl e) more = subst (λ z. Contains (f y ∷ map f ys) (f z)) e (Rattle.el_design.proofs.OrderLists.con_head (f y) (map f ys))
-    go (inr k) more = Rattle.el_design.proofs.OrderLists.con_tail (f y) (f x) (map f ys) (more k)
-
 pub sound_tasks : (d : Flat) → IsSound d → (t : ℕ) (task : FlatTask) → slice_get d.tasks t ≡ Some task → (o : List ℕ) (x : Statement) → Stands [] [] task.body o x → IsStatement d x
 sound_tasks d s t task e o x st = s.statements task.body x
     (Contains-append_left (map (λ p. p.body) d.procs ++ map (λ t. t.body) d.tasks) (map (λ f. f.body) d.funcs) task.body
-    (Contains-append_right (map (λ p. p.body) d.procs) (map (λ t. t.body) d.tasks) task.body (con_map (λ t. t.body) d.tasks task (slice_contains d.tasks t task e)))) (o, st)
+    (Contains-append_right (map (λ p. p.body) d.procs) (map (λ t. t.body) d.tasks) task.body (con_map (λ t. t.body) d.tasks task (con_got d.tasks t task e)))) (o, st)
 
 pub sound_process : (d : Flat) → IsSound d → (p : ℕ) (process : FlatProc) → slice_get d.procs p ≡ Some process → (o : List ℕ) (x : Statement) → Stands [] [] process.body o x → IsStatement d x
 sound_process d s p process e o x st = s.statements process.body x
     (Contains-append_left (map (λ p. p.body) d.procs ++ map (λ t. t.body) d.tasks) (map (λ f. f.body) d.funcs) process.body
-    (Contains-append_left (map (λ p. p.body) d.procs) (map (λ t. t.body) d.tasks) process.body (con_map (λ p. p.body) d.procs process (slice_contains d.procs p process e)))) (o, st)
+    (Contains-append_left (map (λ p. p.body) d.procs) (map (λ t. t.body) d.tasks) process.body (con_map (λ p. p.body) d.procs process (con_got d.procs p process e)))) (o, st)
 
 -- ---- tasks so deep
 

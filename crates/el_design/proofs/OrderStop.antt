@@ -14,7 +14,7 @@ use Rattle.el_design.proofs.OrderWalk.{Leaves}
 use Rattle.el_design.proofs.OrderOutcome.{FreeIn, Kept, Fine, Sane, Paused, in_forever, Rests}
 use Rattle.el_design.proofs.OrderSane.{Here, Stated, has_walk, forever_whole}
 use Rattle.el_design.proofs.OrderDepth.{sizes_at, sizes_are, any, sound_tasks, sound_process, tasks_stated, started}
-use Rattle.el_design.proofs.OrderDepth as depth
+use Rattle.el_design.proofs.OrderPlaces.{con_got}
 use Rattle.el_design.proofs.OrderResume.{resume, resumes, carry, resume_carried}
 use Rattle.el_design.proofs.OrderBeside.{Beside, resumed, res_forever}
 
@@ -79,7 +79,7 @@ module _ (d : Flat) (p : ℕ) (clean : IsClean d) (sound : IsSound d) (times : L
 
   -- an `always` waits
   never : process.always ≡ true → (below : List Work) → Leaves d below process.body None → ⊥
-  never a below l = has_walk d p clean times counts nets turns enough [] below process.body (λ m c e. con_nil m c) l (λ walk. always_waits d clean (depth.slice_contains d.procs p process here) a walk)
+  never a below l = has_walk d p clean times counts nets turns enough [] below process.body (λ m c e. con_nil m c) l (λ walk. always_waits d clean (con_got d.procs p process here) a walk)
 
   abbrev whole : ℕ
   whole = size_of (sizes_at d times (deep d)) [] process.body

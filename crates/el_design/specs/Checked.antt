@@ -1,4 +1,4 @@
--- Designs that break no rule, with an order of their nets. This project's own.
+-- Checked designs: sound ones that break no rule, with an order of their nets. This project's own.
 use Rattle.std.specs.Prelude.{ℕ, List}
 use Rattle.el_design.specs.Plain.{Flat}
 use Rattle.el_design.specs.Rules.{IsClean, IsOrder}

@@ -43,7 +43,7 @@ pub record Meets (d : Flat) (p : ℕ) (marks : List ℕ) (x : Statement) : Type 
   pub is : slice_get d.procs p ≡ Some process
   pub stands : Stands d.tasks [] process.body marks x
 
--- a loop at a place where it stands, with the marks that are open there: of a process in place, or of a function
+-- a statement, as a loop, at a place where it stands, with the marks that are open there: of a process in place, or of a function
 pub data LoopAt (d : Flat) : List ℕ → Statement → Type 0 where
   loop_of_process : {p : ℕ} {marks : List ℕ} {x : Statement} → Meets d p marks x → LoopAt d marks x
   loop_of_function : {g : FlatFunc} {marks : List ℕ} {x : Statement} → Contains d.funcs g → Stands [] [] g.body marks x → LoopAt d marks x

@@ -11,7 +11,7 @@ use Rattle.el_design.specs.Act.{Process, act}
 pub use Rattle.el_design.specs.Queue.{is_empty}
 use Rattle.el_design.specs.Queue.{Config, has_value, is_stuck, can_run, Event, Run, Follow, Update, ready, IsStarved, IsAtRest}
 use Rattle.el_design.specs.Run.{IsStimulus, Starts, Continues, Takes, Any, Runs}
-use Rattle.el_design.specs.Sizes.{CountsTurns, CountsStops, u_of, s_of}
+use Rattle.el_design.specs.Sizes.{CountsTurns, CountsStops, u_of, s_of, nets_size}
 use Rattle.el_design.specs.Rules.{most_turns}
 
 -- so many steps that are no events lead from a stack to another
@@ -32,7 +32,7 @@ abbrev pub is_spinning : List Work → Bool
 is_spinning (Do (Forever at body) ∷ k) = is_nothing body
 is_spinning k = false
 
--- Steps that are no events lead from each stack to the one that `settle` gives; it is still, unless those steps never end; and no such step changes what `settle` gives.
+-- Steps that are no events lead from each stack to the one that `settle` gives; it is still, or has a `forever` of nothing on top; and no such step changes what `settle` gives.
 abbrev pub StacksSettle : List Work → Type 0
 StacksSettle k =
     ((n : ℕ) × QuietSteps n k (settle k))
@@ -44,7 +44,8 @@ abbrev pub has_arm : List Work → Bool
 has_arm (Do (Arm on labels body others) ∷ k) = true
 has_arm k = false
 
--- A process has an event exactly where it is neither waiting, nor ended, nor at a call for which no reply is left, in each scene.
+-- A process has an event, in each scene, exactly where `can_run` holds of it; where its stack is still, with no arm on top, that is
+-- where it is neither waiting, nor ended, nor at a call for which no reply is left.
 abbrev pub ProcessesRun : Flat → Scene → Process → Type 0
 ProcessesRun d s p =
     (is_some (act d s p) ≡ can_run p)
@@ -58,7 +59,7 @@ places_from n test (x ∷ xs) = if test n x then n ∷ places_from (suc n) test 
 abbrev pub has_updates : Process → Bool
 has_updates p = elim p.updates [ [] ↦ false | ws ∷ more ↦ true ]
 
--- Each process, by number, that has an event; each net, by number, whose value differs from its expression's; and where there is none of these,
+-- Each process, by number, that has an event; each net, by number, whose value differs from the one that it takes; and where there is none of these,
 -- and no process is at a call for which no reply is left, the oldest update of each process, by number, that has one.
 abbrev pub listed : Flat → Config → List Event
 listed d c =
@@ -114,17 +115,18 @@ AtMostUEvents d = (times : List ℕ → Statement → ℕ) → CountsTurns d tim
 abbrev pub LoopsCount : Flat → Type 0
 LoopsCount d = ((times : List ℕ → Statement → ℕ) × CountsTurns d times) × ((often : List ℕ → Statement → ℕ) × CountsStops d often)
 
--- U and S of a process are one number each: those who count the loops rightly come to the same.
+-- Any two ways of counting the loops' turns that both count rightly give the same U of each process, the same S, and the same sum over nets of their expressions' sizes, functions in place.
 abbrev pub SizesAreOne : Flat → Type 0
 SizesAreOne d =
     ((a b : List ℕ → Statement → ℕ) → CountsTurns d a → CountsTurns d b → (p : ℕ) (process : FlatProc) → slice_get d.procs p ≡ Some process → u_of d a process ≡ u_of d b process)
     × ((a b : List ℕ → Statement → ℕ) → CountsStops d a → CountsStops d b → (p : ℕ) (process : FlatProc) → slice_get d.procs p ≡ Some process → s_of d a process ≡ s_of d b process)
+    × ((a b : List ℕ → Statement → ℕ) → CountsTurns d a → CountsTurns d b → nets_size d a ≡ nets_size d b)
 
 -- each loop counts as often as an unrolled one may
 abbrev pub AtMostMaxEvents : Flat → Type 0
 AtMostMaxEvents d = HasAtMostU d most_turns
 
--- whatever events are taken, there is one trace
+-- whatever events are taken, two runs under one stimulus have one trace
 abbrev pub EveryOrder : Flat → Type 0
 EveryOrder d = (x : Stimulus) (plays others : List (List Event)) (trace other : Trace) → Runs d x plays trace → Runs d x others other → trace ≡ other
 

@@ -59,7 +59,7 @@ can_do (Forever at body) = false
 can_do (Wait at falling) = false
 can_do x = true
 
--- a process has an event: its still stack is neither empty, nor has a wait on top, nor a call for which no reply is left
+-- a process has an event: its still stack is neither empty, nor has on top a wait, an arm of a `case` outside it, or a call for which no reply is left
 abbrev pub can_run_at : List Work → List Reply → Bool
 can_run_at [] rs = false
 can_run_at (Do x ∷ k) rs = can_do x

@@ -1,5 +1,5 @@
 -- Edges, runs and traces. All of it is this project's own, but that any event may be the next (IEEE 1364-2005, 11.4.2).
-use Rattle.std.specs.Prelude.{◌≡◌, ◌≢◌, ◌⊎◌, ℕ, zero, suc, ◌+◌, ◌*◌, ◌/◌, ◌%◌, ◌^◌, ◌<◌, List, [], ◌∷◌, map, length, get_or, slice_get, Some, zip, All, unwrap_or, option_map}
+use Rattle.std.specs.Prelude.{◌≡◌, ◌≢◌, ◌⊎◌, ℕ, zero, suc, ◌+◌, ◌*◌, ◌/◌, ◌%◌, ◌^◌, List, [], ◌∷◌, map, length, get_or, slice_get, Some, zip, All, unwrap_or, option_map}
 use Rattle.xt_bits.specs.Word.{Word, word}
 use Rattle.el_design.specs.declared.designs.Source.{Source}
 use Rattle.el_design.specs.declared.designs.Source.TheVariants as sources
@@ -9,7 +9,7 @@ use Rattle.el_design.specs.Plain.{FlatNet, FlatProc, Flat}
 use Rattle.el_design.specs.Store.{Store, start_store, stored, width_of}
 use Rattle.el_design.specs.Stack.{start_stack, wake}
 use Rattle.el_design.specs.Act.{Process}
-use Rattle.xt_bits.specs.Stimulus.{Reply, Stimulus}
+use Rattle.xt_bits.specs.Stimulus.{Reply, Stimulus, FitPins}
 use Rattle.el_design.specs.Queue.{Config, scene_of, net_aim, Event, take, ready, IsStarved, IsAtRest}
 
 abbrev pub net_width : Flat → ℕ → ℕ
@@ -17,7 +17,7 @@ net_width d n = unwrap_or (option_map (λ x. x.width) (slice_get d.nets n)) 0
 
 -- one value for each input pin, which fits it
 abbrev pub IsRow : Flat → List Word → Type 0
-IsRow d row = (map (λ w. w.width) row ≡ map (net_width d) d.inputs) × All (λ w. w.value < 2 ^ w.width) row
+IsRow d row = FitPins (map (net_width d) d.inputs) row
 
 pub record IsStimulus (d : Flat) (x : Stimulus) : Type 0 where
   pub some_row : x.rows ≢ []

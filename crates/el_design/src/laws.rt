@@ -1,4 +1,5 @@
 //! Laws of the definitions, each the contract of a function that does nothing.
+//! A checked design is one that is sound and breaks no rule, with an order of its nets.
 ghost use Rattle.xt_bits.specs.Word.{Word};
 ghost use Rattle.el_design.specs.Plain.{Statement, Flat};
 ghost use Rattle.el_design.specs.Store.{Store};
@@ -13,59 +14,67 @@ ghost use Rattle.el_design.specs.Bodies.{BodyRuns, FunctionsEnd};
 ghost use Rattle.el_design.specs.Places.{WalksInPlace};
 ghost use Rattle.el_design.specs.Laws.{StacksSettle, ProcessesRun, EventsAreListed, EveryEdgeEnds, LoopsCount, SizesAreOne, AtMostUEvents, AtMostMaxEvents, EveryStimulusRuns};
 
-/// Steps that are no events lead from each stack to the one that `settle` gives, which is still.
+/// Steps that are no events lead from each stack to the one that `settle` gives. It is still, or has on top a `forever` of nothing.
+/// No such step changes what `settle` gives.
 pub fn stacks_settle()
     ensures { (k : List Work) → StacksSettle k }
 {}
 
-/// A process has an event exactly where it is neither waiting, nor ended, nor at a call without a reply.
+/// A process has an event exactly where `can_run` holds of it, which looks at its stack and replies alone. One whose stack is still, with no arm
+/// of a `case` on top, has one exactly where it is neither waiting, nor ended, nor at a call for which no reply is left.
 pub fn processes_run()
     ensures { (d : Flat) → (s : Scene) → (p : Process) → ProcessesRun d s p }
 {}
 
-/// The events that may be taken are those of processes, then of nets, and updates where there is none of these.
+/// The events that may be taken are, in this order, by number: one of each process that has one; one of each net whose value differs from
+/// the one that it takes; and, where there is none of these and no process is at a call for which no reply is left, the oldest update
+/// of each process that has one.
 pub fn events_are_listed()
     ensures { (d : Flat) → (c : Config) → EventsAreListed d c }
 {}
 
-/// The body of a function, run by its structure, leaves the store that the events of a stack with it leave.
+/// Where the body of a function ends, the events of a stack with it come to its end, and leave the store that it leaves when it is run by its structure.
 pub fn bodies_run()
     ensures { (d : Flat) → (call : ℕ → List Word → Word) → (s : Statement) → (k : List Work) → (store : Store) → BodyRuns d call s k store }
 {}
 
-/// In a design that breaks no rule every function's body ends, so that it is run by its structure.
+/// In a checked design every function's body ends, whatever its arguments.
 pub fn functions_end()
     ensures { (d : Flat) → (order : List ℕ) → IsChecked d order → FunctionsEnd d }
 {}
 
-/// What a walk from a statement comes to stands in it in place, with those marks open that the walk's stack has open.
+/// Each statement on a stack that a walk from a statement comes to stands in that statement in place, with those marks open that are open round the walk
+/// or in the stack below it.
 pub fn walks_in_place()
     ensures { (d : Flat) → (marks : List ℕ) → (s : Statement) → (k : List Work) → WalksInPlace d marks s k }
 {}
 
-/// In a design that breaks no rule every edge ends, whatever events are taken: at rest or starved.
+/// In a checked design every edge of every run ends, whatever events are taken: no sequence of events is longer than some number,
+/// one that no event can follow came to rest or starved, and there is one that did.
 pub fn every_edge_ends()
     ensures { (d : Flat) → (order : List ℕ) → IsChecked d order → EveryEdgeEnds d }
 {}
 
-/// Where no rule before those on sizes is broken, how often each loop counts in `U` and in `S` is a number.
+/// Where no rule of a pass before the one on sizes is broken, there is a way of counting the loops' turns that counts rightly in `U`, and one in `S`.
 pub fn loops_count()
     ensures { (d : Flat) → IsCleanBefore d 13 → LoopsCount d }
 {}
 
-/// There too, `U` and `S` of a process are one number each, whoever counts the loops.
+/// Where no rule of a pass before the one on sizes is broken, any two ways of counting the loops' turns that both count rightly
+/// give the same `U` of each process, the same `S`, and the same sum over nets of their expressions' sizes, functions in place.
 pub fn sizes_are_one()
     ensures { (d : Flat) → IsCleanBefore d 13 → SizesAreOne d }
 {}
 
-/// In a design that breaks no rule no process has more than `U` events in an edge, whatever events are taken;
-/// nor more than it would be with each loop counted as often as an unrolled one may count.
+/// In a checked design no process has more than `U` events in an edge of a run, updates not counted, whatever events are taken
+/// and whichever way of counting the loops' turns is taken that counts rightly; nor more than `U` would be with each loop counted
+/// as often as an unrolled one may count.
 pub fn at_most_u_events()
     ensures counted { (d : Flat) → (order : List ℕ) → IsChecked d order → AtMostUEvents d }
     ensures every_loop { (d : Flat) → (order : List ℕ) → IsChecked d order → AtMostMaxEvents d }
 {}
 
-/// A design that breaks no rule has a run for each stimulus that fits.
+/// A checked design has a run for each stimulus that fits.
 pub fn every_stimulus_runs()
     ensures { (d : Flat) → (order : List ℕ) → IsChecked d order → EveryStimulusRuns d }
 {}

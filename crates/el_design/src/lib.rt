@@ -11,7 +11,7 @@ pub use designs::{Design, Func, Import, Net, Pin, Port, Proc, Source, Task, Var}
 pub use expressions::{BinOp, Kind, Pick, TExpr, Target, UnOp};
 pub use laws::{
     at_most_u_events, bodies_run, events_are_listed, every_edge_ends, every_stimulus_runs,
-    functions_end, loops_count, processes_run, stacks_settle, walks_in_place,
+    functions_end, loops_count, processes_run, sizes_are_one, stacks_settle, walks_in_place,
 };
 pub use orders::{Checked, NetOrder};
 pub use statements::{Arm, Stmt};

@@ -1,4 +1,4 @@
-//! The order in which nets are evaluated, and designs that break no rule.
+//! The order in which nets are evaluated, and checked designs.
 ghost use Rattle.std.specs.Prelude.{◌≡◌};
 ghost use Rattle.el_design.specs.View.{flat_of};
 ghost use Rattle.el_design.specs.Checked.{IsChecked};
@@ -40,7 +40,7 @@ impl NetOrder {
     }
 }
 
-/// A design that breaks no rule, with an order of its nets in which each stands after the nets that it reads.
+/// A checked design: a sound one that breaks no rule, with an order of its nets in which each stands after the nets that it reads.
 #[derive(Debug, Drop)]
 pub struct Checked {
     design: Design,
@@ -95,7 +95,7 @@ impl Checked {
         &self.order
     }
 
-    /// All runs have one trace, whatever events are taken: a law, for which nothing is done.
+    /// All runs under one stimulus have one trace, whatever events are taken: a law, for which nothing is done.
     pub fn every_order(&self)
         ensures { EveryOrder (flat_of self.now.0) }
     {
