@@ -1,5 +1,5 @@
 -- Tokens in their text: where they stand, and how many there may be.
-use Rattle.std.proofs.Common.{◌≡◌, ◌≤◌, ◌<◌, ◌+◌, ℕ, List, [], ◌∷◌, length, get_or, suc, Result, Ok, Err, Global, vec_len, ap, refl, ◌∙◌, ◌^◌, arith}
+use Rattle.std.proofs.Common.{◌≡◌, ◌≤◌, ◌<◌, ◌+◌, ◌-◌, ℕ, Some, min, subst, slice_get, List, [], ◌∷◌, length, get_or, suc, Result, Ok, Err, Global, vec_len, ap, refl, ◌∙◌, ◌^◌, arith}
 use Rattle.std.specs.Prelude.{IfOk, Vec}
 use Rattle.std.proofs.lemmas.List.Elements.{All-get_or}
 use Rattle.std.proofs.lemmas.Option.{slice_get-get_or}
@@ -20,13 +20,12 @@ start_within text ts i d are h =
     let high = each.1 in
     omega arith
 
-pub refused_at : (text : Expanded) (ts list : List Token) (i : ℕ) (d : Token) (place : Place) → list ≡ ts → i < length ts →
+pub refused_at : (text : Expanded) (ts list : List Token) (stop i : ℕ) (d : Token) (place : Place) → list ≡ ts → i ≡ min stop (length ts - 1) → i < length ts →
     place ≡ place_of text (get_or list i d).start → place.file < length text.names →
-    IsNoTree text ts (record { rule = record { 0 = 20 }; place = place })
-refused_at text ts list i d place same h is named = record {
-  at = i;
+    IsNoTree text ts stop (record { rule = record { 0 = 20 }; place = place })
+refused_at text ts list stop i d place same at_stop h is named = record {
   token = get_or ts i d;
-  there = slice_get-get_or ts i d h;
+  there = subst (λ k. slice_get ts k ≡ Some (get_or ts i d)) at_stop (slice_get-get_or ts i d h);
   is = ap (λ p. record { rule = record { 0 = 20 }; place = p }) (is ∙ ap (λ l. place_of text (get_or l i d).start) same);
   named = named;
 }

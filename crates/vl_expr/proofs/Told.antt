@@ -29,9 +29,10 @@ module _ (text : Expanded) (ts : List Token) (ls : List Lexeme) (n at : ℕ) whe
   told_only (Err (fails.Refused refusal)) t e j w = let r = whole_complete ls n at j e w in absurd (not_read (sym t.1 ∙ r.is))
   told_only (Err fails.Memory) t e j w = refl
 
-  pub told_refused : (r : Result (Expr × ℕ) Fail) → Tells text ts r (whole_of ls n at) → (refusal : Refusal) → r ≡ Err (fails.Refused refusal) → IsNoTree text ts refusal
+  pub told_refused : (r : Result (Expr × ℕ) Fail) → Tells text ts r (whole_of ls n at) → (refusal : Refusal) → r ≡ Err (fails.Refused refusal) →
+      (stop : ℕ) × (whole_of ls n at ≡ Err stop) × IsNoTree text ts stop refusal
   told_refused (Ok a) t refusal e = cc
-  told_refused (Err (fails.Refused other)) t refusal e = let same : other ≡ refusal = cc in subst (IsNoTree text ts) same t.2
+  told_refused (Err (fails.Refused other)) t refusal e = let same : other ≡ refusal = cc in (t.0, t.1, subst (IsNoTree text ts t.0) same t.2)
   told_refused (Err fails.Memory) t refusal e = cc
 
   pub told_none : (r : Result (Expr × ℕ) Fail) → Tells text ts r (whole_of ls n at) → (refusal : Refusal) → r ≡ Err (fails.Refused refusal) →

@@ -1,5 +1,5 @@
 //! The expressions of a text's tokens.
-ghost use Rattle.std.specs.Prelude.{◌≡◌, ◌<◌, ◌≤◌, ◌^◌, ◌-◌, ℕ, List, length, IfOk, MatchResult};
+ghost use Rattle.std.specs.Prelude.{◌≡◌, ◌<◌, ◌≤◌, ◌^◌, ◌-◌, ℕ, List, length, Err, IfOk, MatchResult};
 ghost use Rattle.xt_base.specs.declared.refusals.Refusal.{Refusal};
 ghost use Rattle.vl_lex.specs.Tokens.{AreTokens};
 ghost use Rattle.vl_tree.specs.declared.exprs.Expr.{Expr};
@@ -44,7 +44,7 @@ fn whole_at(
 pub fn refused(text: &Text, tokens: &Tokens, at: u32) -> Refusal
     requires tokens { AreTokens text.now.bytes tokens.now }
     requires some { 0 < length tokens.now }
-    ensures { IsNoTree text.now tokens.now result }
+    ensures { IsNoTree text.now tokens.now at result }
 {
     let list = tokens.list();
     let last = list.len() - 1;
@@ -96,7 +96,8 @@ pub fn parse_expr(
     ensures only { (e : Expr) (j : ℕ) → IsWholeExpr (lexemes_of text.now.bytes tokens.now) depth at j e →
         MatchResult result (λ found. found ≡ (e, j)) (λ fail. fail ≡ Fail.Memory) }
 
-    ensures refused { (refusal : Refusal) → result ≡ Err (Fail.Refused refusal) → IsNoTree text.now tokens.now refusal }
+    ensures refused { (refusal : Refusal) → result ≡ Err (Fail.Refused refusal) →
+        (stop : ℕ) × (whole_of (lexemes_of text.now.bytes tokens.now) depth at ≡ Err stop) × IsNoTree text.now tokens.now stop refusal }
     ensures none { (refusal : Refusal) → result ≡ Err (Fail.Refused refusal) →
         (e : Expr) (j : ℕ) → IsWholeExpr (lexemes_of text.now.bytes tokens.now) depth at j e → ⊥ }
 {

@@ -71,9 +71,9 @@ module _ (text : Expanded) (ts : List Token) (ls : List Lexeme) (names : List (L
   told_only (Err fails.Memory) t tree s = refl
 
   pub told_refused : (r : Result Tree Fail) → Tells text ts r (source_of ls names n) → (refusal : Refusal) → r ≡ Err (fails.Refused refusal) →
-      IsNoTree text ts refusal
+      (stop : ℕ) × (source_of ls names n ≡ Err stop) × IsNoTree text ts stop refusal
   told_refused (Ok a) t refusal e = cc
-  told_refused (Err (fails.Refused other)) t refusal e = let same : other ≡ refusal = cc in subst (IsNoTree text ts) same t.2
+  told_refused (Err (fails.Refused other)) t refusal e = let same : other ≡ refusal = cc in (t.0, t.1, subst (IsNoTree text ts t.0) same t.2)
   told_refused (Err fails.Memory) t refusal e = cc
 
   pub told_none : (r : Result Tree Fail) → Tells text ts r (source_of ls names n) → (refusal : Refusal) → r ≡ Err (fails.Refused refusal) →

@@ -11,5 +11,5 @@ use Rattle.vl_expr.specs.Refusals.{IsNoTree}
 -- an answer tells what reading gives: a tree, or a refusal where there is none
 abbrev pub Tells : Expanded → List Token → Result Tree Fail → Reading Tree → Type 0
 Tells text ts (Ok tree) read = read ≡ Ok tree
-Tells text ts (Err (fails.Refused refusal)) read = (at : ℕ) × (read ≡ Err at) × IsNoTree text ts refusal
+Tells text ts (Err (fails.Refused refusal)) read = (at : ℕ) × (read ≡ Err at) × IsNoTree text ts at refusal
 Tells text ts (Err fails.Memory) read = Unit {0}

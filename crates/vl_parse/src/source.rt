@@ -1,5 +1,5 @@
 //! The tree of a text's tokens.
-ghost use Rattle.std.specs.Prelude.{◌≡◌, ◌<◌, ◌≤◌, ◌^◌, ◌-◌, ℕ, List, length, IfOk, MatchResult};
+ghost use Rattle.std.specs.Prelude.{◌≡◌, ◌<◌, ◌≤◌, ◌^◌, ◌-◌, ℕ, List, length, Err, IfOk, MatchResult};
 ghost use Rattle.xt_base.specs.declared.refusals.Refusal.{Refusal};
 ghost use Rattle.vl_lex.specs.Tokens.{AreTokens};
 ghost use Rattle.vl_tree.specs.declared.modules.Tree.{Tree};
@@ -56,7 +56,8 @@ fn told(alloc: Global, text: &Text, tokens: &Tokens) -> Result<Tree, Fail>
 /// The tree of a source, from its tokens.
 ///
 /// Refused by rule 20 exactly where the tokens have no tree of depth at most 128; the place is that of the token at which
-/// reading stops, or of the last one. The depth is the greatest number of statements, expressions, left sides, selects and
+/// reading stops (of one of the list, where a list of parameters, ports or formals breaks a side condition), or of the last
+/// one. The depth is the greatest number of statements, expressions, left sides, selects and
 /// pairs of parentheses round an expression that stand in one another; so the recursion is bounded. It goes over the
 /// tokens once.
 pub fn parse(alloc: Global, text: &Text, tokens: &Tokens) -> Result<Tree, Fail>
@@ -69,7 +70,8 @@ pub fn parse(alloc: Global, text: &Text, tokens: &Tokens) -> Result<Tree, Fail>
         IsSource (lexemes_of text.now.bytes tokens.now) (spellings_of text.now.bytes tokens.now) 128 tree →
         MatchResult result (λ found. found ≡ tree) (λ fail. fail ≡ Fail.Memory) }
 
-    ensures refused { (refusal : Refusal) → result ≡ Err (Fail.Refused refusal) → IsNoTree text.now tokens.now refusal }
+    ensures refused { (refusal : Refusal) → result ≡ Err (Fail.Refused refusal) → (stop : ℕ) ×
+        (source_of (lexemes_of text.now.bytes tokens.now) (spellings_of text.now.bytes tokens.now) 128 ≡ Err stop) × IsNoTree text.now tokens.now stop refusal }
     ensures none { (refusal : Refusal) → result ≡ Err (Fail.Refused refusal) → (tree : Tree) →
         IsSource (lexemes_of text.now.bytes tokens.now) (spellings_of text.now.bytes tokens.now) 128 tree → ⊥ }
 {

@@ -1,6 +1,6 @@
 use Rattle.std.proofs.Common.{◌∙◌, sym}
 use Rattle.vl_expr.specs.Lexemes.{lexemes_of, spellings_of}
-use Rattle.vl_parse.proofs.Laws.{no_tokens, empty_found, told_found, told_only, told_none}
+use Rattle.vl_parse.proofs.Laws.{no_tokens, empty_found, told_found, told_only, told_refused, told_none}
 use Rattle.vl_parse.proofs.source.parse.Goals as goal
 
 pub returns-then-is_empty-clause-found : goal.returns-then-is_empty-clause-found
@@ -21,4 +21,9 @@ returns-clause-only c =
 pub returns-clause-none : goal.returns-clause-none
 returns-clause-none c =
     told_none c.args.text.now c.args.tokens.now (lexemes_of c.args.text.now.bytes c.args.tokens.now)
+    (spellings_of c.args.text.now.bytes c.args.tokens.now) 128 c.told.result c.told.ensures
+
+pub returns-clause-refused : goal.returns-clause-refused
+returns-clause-refused c =
+    told_refused c.args.text.now c.args.tokens.now (lexemes_of c.args.text.now.bytes c.args.tokens.now)
     (spellings_of c.args.text.now.bytes c.args.tokens.now) 128 c.told.result c.told.ensures
