@@ -20,3 +20,4 @@ pub mod InputLemmas
 pub mod SourceLemmas
 pub mod GrowLemmas
 pub mod TurnLemmas
+pub mod Placed

@@ -49,16 +49,16 @@ module _ (text : Expanded) (r : Request) where
   no_token_refusal (fails.Refused refusal) told = let is = told refusal refl in (subst (Breaks text r) (sym is.is) (no_token is.at is.fails), is.named)
   no_token_refusal fails.Memory told = tt
 
-  pub no_tree_refusal : (ts : List Token) → AreTokens text.bytes ts → (fail : Fail) → ((refusal : Refusal) → ◌≡◌ {A = Result Tree Fail} (Err fail) (Err (fails.Refused refusal)) → IsNoTree text ts refusal)
+  pub no_tree_refusal : (ts : List Token) → AreTokens text.bytes ts → (fail : Fail) → ((refusal : Refusal) → ◌≡◌ {A = Result Tree Fail} (Err fail) (Err (fails.Refused refusal)) → (stop : ℕ) × IsNoTree text ts stop refusal)
       → ((refusal : Refusal) → ◌≡◌ {A = Result Tree Fail} (Err fail) (Err (fails.Refused refusal)) → (tree : Tree) → IsTreeOf text ts tree → ⊥) → IsRefusal text r fail
-  no_tree_refusal ts are (fails.Refused refusal) told none = (no_tree ts are (none refusal refl) refusal (told refusal refl), (told refusal refl).named)
+  no_tree_refusal ts are (fails.Refused refusal) told none = (no_tree ts are (none refusal refl) refusal (told refusal refl).0 (told refusal refl).1, (told refusal refl).1.named)
   no_tree_refusal ts are fails.Memory told none = tt
 
   module _ (ts : List Token) (tree : Tree) (has : HasTree text ts tree) where
     -- one source of the form that waits: the text breaks no rule
     pub breaks_none : (source : Source) → IsFormOf text r ts tree source → waits source ≡ true → ((other : Source) → IsFormOf text r ts tree other → source ≡ other) → (refusal : Refusal) → Breaks text r refusal → ⊥
     breaks_none source form waiting sole refusal (no_token at fails) = no_failure text.bytes ts at has.are_tokens fails
-    breaks_none source form waiting sole refusal (no_tree us are none other told) = none tree (subst (λ (l : List Token). IsTreeOf text l tree) (sym (same_tokens text ts us has.are_tokens are)) has.is_tree)
+    breaks_none source form waiting sole refusal (no_tree us are none other stop told) = none tree (subst (λ (l : List Token). IsTreeOf text l tree) (sym (same_tokens text ts us has.are_tokens are)) has.is_tree)
     breaks_none source form waiting sole refusal (out_of_form us other has' none) = none source (form_of_these text r us ts other tree source has' has form)
     breaks_none source form waiting sole refusal (no_wait us other there has' form' idle token at) =
         let same : source ≡ there = sole there (form_of_these text r ts us tree other there has has' form') in

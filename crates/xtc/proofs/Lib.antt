@@ -34,3 +34,4 @@ pub mod FormSums
 pub mod FormSteps
 pub mod FormModule
 pub mod FormLaws
+pub mod Outcomes

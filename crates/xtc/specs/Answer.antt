@@ -37,10 +37,11 @@ expanded h r = source_expansion h (file_of r) (macros_of r)
 abbrev pub most_depth : ℕ
 most_depth = 128
 
--- the tokens of a text and the tree of these tokens; a text has at most one of each
+-- a tree of tokens of a text
 abbrev pub IsTreeOf : Expanded → List Token → Tree → Type 0
 IsTreeOf text ts tree = IsSource (lexemes_of text.bytes ts) (spellings_of text.bytes ts) most_depth tree
 
+-- the tokens of a text and the tree of these tokens; a text has at most one of each
 pub record HasTree (text : Expanded) (ts : List Token) (tree : Tree) : Type 0 where
   pub are_tokens : AreTokens text.bytes ts
   pub is_tree : IsTreeOf text ts tree
@@ -61,7 +62,7 @@ without_wait text token = record { rule = record { 0 = 61 }; place = place_of te
 -- form, which is told of the file as a whole; its process has no wait, at the process's first token.
 pub data Breaks (text : Expanded) (r : Request) : Refusal → Type 0 where
   no_token : (at : ℕ) → FailsAt text.bytes at → Breaks text r (record { rule = record { 0 = 14 }; place = place_of text at })
-  no_tree : (ts : List Token) → AreTokens text.bytes ts → ((tree : Tree) → IsTreeOf text ts tree → ⊥) → (refusal : Refusal) → IsNoTree text ts refusal → Breaks text r refusal
+  no_tree : (ts : List Token) → AreTokens text.bytes ts → ((tree : Tree) → IsTreeOf text ts tree → ⊥) → (refusal : Refusal) (stop : ℕ) → IsNoTree text ts stop refusal → Breaks text r refusal
   out_of_form : (ts : List Token) (tree : Tree) → HasTree text ts tree → ((source : Source) → IsFormOf text r ts tree source → ⊥) → Breaks text r not_of_form
   no_wait : (ts : List Token) (tree : Tree) (source : Source) → HasTree text ts tree → IsFormOf text r ts tree source → waits source ≡ false →
       (token : Token) → slice_get ts source.process ≡ Some token → Breaks text r (without_wait text token)
@@ -135,7 +136,7 @@ pub record Stream : Type 0 where
 abbrev pub on : Option (List ℕ) → ℕ → Stream
 on written faults = record { written = written; faults = faults }
 
--- a stream took a text, and counted no fault
+-- a stream took a text, and its count of faults is as before
 pub record Took (old new : Stream) (text : List ℕ) : Type 0 where
   pub written : new.written ≡ appended old.written text
   pub calm : new.faults ≡ old.faults
@@ -158,7 +159,8 @@ pub data FailsToWrite (held : Option Held) (faults faults' : ℕ) (asked : Optio
   output : (design : List ℕ) → IsDesignFor held asked design → Failed out out' design → notes' ≡ notes → FailsToWrite held faults faults' asked out out' notes notes'
   note : (status : Status) (line : List ℕ) → Explains held faults faults' asked status line → Failed notes notes' line → out' ≡ out → FailsToWrite held faults faults' asked out out' notes notes'
 
--- what stands on both streams at the end: after Done a design on the output; without memory both are as before; after each other status its line on the notes
+-- what stands on both streams at the end: after Done a design on the output; without memory both are as before; after a write fault a prefix of a design or of a line
+-- on one of them; after each other status its line on the notes
 abbrev pub Leaves : Option Held → ℕ → ℕ → Option Request → Stream → Stream → Stream → Stream → Status → Type 0
 Leaves held faults faults' asked out out' notes notes' Done = (design : List ℕ) × IsDesignFor held asked design × Took out out' design × (notes' ≡ notes)
 Leaves held faults faults' asked out out' notes notes' Memory = (out' ≡ out) × (notes' ≡ notes)

@@ -44,7 +44,8 @@ const WHOLE_FILE: Place = Place {
 };
 
 /// Does what the words ask for: takes the source from `files`, writes the design to `out` and the line that explains a
-/// status to `notes`, and answers the status. `out` is written only after the last check.
+/// status to `notes`, and answers the status. `out` is written only after the last check. What is said here of the source
+/// holds where the files tell what they hold.
 ///
 /// - `done`, the headline: after Done the words are a command, and what `out` took is the text of one netlist that is
 ///   compiled from the design of the source. So for every stimulus the trace of every run of the source's event queue is
@@ -54,11 +55,12 @@ const WHOLE_FILE: Place = Place {
 ///   with its file and line (for rule 20 that of some token); after WriteFault a prefix of such a design on the output or of
 ///   such a line on the notes, whichever counted a fault, and nothing on the other; after Memory nothing.
 /// - `usage`, `missed`, `refused`, `accepted`: which status comes for words that are no command, and for a source that
-///   comes to a file that isn't held, that breaks a rule, and that breaks none. By `leaves` and `read_fault` Usage, Refused
-///   and Done come nowhere else, where the files tell what they hold.
+///   comes to a file that isn't held, that breaks a rule, and that breaks none. By `leaves` Usage, Refused and Done come
+///   nowhere else.
 /// - `read_fault`, `write_fault`, `fault`: these two statuses come only for such a file or where a fault was counted, and
-///   where one was counted on `files`, none but these two and Memory comes.
-/// - `asked`, `held`: the files that are asked for are those that the source names, in order; they still hold what they held.
+///   where the count of `files` rose, none but these two and Memory comes.
+/// - `asked`, `held`: the files that are asked for are the first of those that the source's expansion loads, in order, its
+///   own file before all; they still hold what they held.
 /// - `never_falls` and its like: no count of faults falls.
 ///
 /// Want of memory is free: no clause says when Memory comes.
@@ -90,6 +92,14 @@ pub fn xtc<F: Files, S: Sink>(
         Err(NoMemory) => Status::Memory,
     }
 }
+
+/// What a request for held files asks for comes to a file that isn't held, breaks a rule or breaks none, and it does one
+/// of these alone. So `missed`, `refused` and `accepted` of [`xtc`] leave out no source, and never ask two statuses of one.
+pub fn one_outcome()
+    ensures some { (h : Held) (r : Request) → IsMissed (Some h) (Some r) ⊎ IsRefused (Some h) (Some r) ⊎ IsAccepted (Some h) (Some r) }
+    ensures refused { (held : Option Held) (asked : Option Request) → IsRefused held asked → IsAccepted held asked → ⊥ }
+    ensures missed { (held : Option Held) (asked : Option Request) → IsMissed held asked → IsRefused held asked ⊎ IsAccepted held asked → ⊥ }
+{}
 
 /// Compiles a file.
 fn compile_file<F: Files, S: Sink>(

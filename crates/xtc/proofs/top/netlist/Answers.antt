@@ -10,7 +10,7 @@ returns-in_err-tokens-clause-refusal c =
 pub returns-in_err-tree-clause-refusal : goal.returns-in_err-tree-clause-refusal
 returns-in_err-tree-clause-refusal c =
     handed_on _ c.in_err-tree.field-0.0 _ c.from_residual-in_err-tree.ensures.1
-    (no_tree_refusal c.args.text.now (asked_by c.args.command.now) c.in_ok-tokens.tokens c.in_ok-tokens.ensures.ok c.in_err-tree.field-0.0 c.in_err-tree.ensures.refused c.in_err-tree.ensures.none)
+    (no_tree_refusal c.args.text.now (asked_by c.args.command.now) c.in_ok-tokens.tokens c.in_ok-tokens.ensures.ok c.in_err-tree.field-0.0 (λ refusal e. let told = c.in_err-tree.ensures.refused refusal e in (told.0, told.2)) c.in_err-tree.ensures.none)
 
 pub returns-clause-refused : goal.returns-clause-refused
 returns-clause-refused c = λ refusal broken.
