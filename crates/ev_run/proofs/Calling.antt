@@ -1,6 +1,6 @@
 -- Calls of functions, and the loops in their bodies.
 use Rattle.std.proofs.Common.{◌≡◌, ◌≤◌, ◌<◌, ◌-◌, ℕ, zero, suc, Bool, true, false, if◌then◌else◌, List, [], ◌∷◌, map, get_or, length, take, drop, slice_get, Option, Some, None, option_map, Result, OnOk, refl, sym, ◌∙◌, ap, subst, arith}
-use Rattle.std.proofs.lemmas.List.{length-map, take_all}
+use Rattle.std.proofs.lemmas.List.{length-map}
 use Rattle.std.proofs.lemmas.Option.{slice_get-map}
 use Rattle.xt_bits.specs.Word.{Word, word}
 use Rattle.el_design.specs.declared.designs.Design.{Design}
@@ -19,6 +19,7 @@ use Rattle.el_design.specs.Assign.{has_label}
 use Rattle.el_design.specs.Function.{call_to, result_of_body, body_scene, body_store, times, while_up}
 use Rattle.el_design.specs.Queue.{scene_of}
 use Rattle.el_design.proofs.Equations as equations
+use Rattle.ev_run.proofs.Outputs.{tail_is}
 
 abbrev deep : Flat → Store → List Word → ℕ → Scene
 deep d store nets n = record { call = call_to d n; nets = nets; store = store }
@@ -81,10 +82,7 @@ for_runs d call s at v first test next body got store is e =
     ap (λ x. body_store d call (plain.For at v (expr_of first) (expr_of test) (expr_of next) (statement_of x)) store) e
     ∙ sym (ap (λ x. body_store d call x store) (ap statement_of is ∙ equations.for_statement at v first test next body))
 
-tail_is : {X : Type 0} (x : X) (xs : List X) → take (length (x ∷ xs) - 1) (drop 1 (x ∷ xs)) ≡ xs
-tail_is x xs = take_all (length (x ∷ xs) - 1) xs (omega arith)
-
-labels_are : (a arm : Arm) (labels : List TExpr) → arm ≡ a → labels ≡ arm.labels → map expr_of labels ≡ (arm_of a).labels
+pub labels_are : (a arm : Arm) (labels : List TExpr) → arm ≡ a → labels ≡ arm.labels → map expr_of labels ≡ (arm_of a).labels
 labels_are a arm labels e l = ap (map expr_of) (l ∙ ap (λ x. x.labels) e) ∙ sym (ap (λ x. x.labels) (equations.arm_is a))
 
 -- the first arm is chosen, or passed

@@ -1,14 +1,20 @@
 -- Nets: the value of a pin, and where all nets have their values.
 use Rattle.ev_run.specs.declared.operators.Trouble.{Trouble}
-use Rattle.std.proofs.Common.{◌≡◌, ℕ, zero, suc, ◌+◌, ◌==◌, Result, IfOk, Bool, true, false, cond, if◌then◌else◌, List, [], ◌∷◌, length, slice_get, get_or, Option, Some, None, option_map, refl, sym, ◌∙◌, ap, add-one, subst, arith}
+use Rattle.std.proofs.Common.{◌≢◌, eqb-true, unwrap_or, ◌-◌, map, take, drop, ◌≤◌, All, ◌≡◌, ℕ, zero, suc, ◌+◌, ◌==◌, Result, IfOk, Bool, true, false, cond, if◌then◌else◌, List, [], ◌∷◌, length, slice_get, get_or, Option, Some, None, option_map, refl, sym, ◌∙◌, ap, add-one, subst, arith}
 use Rattle.std.specs.List.{position, position_from}
+use Rattle.std.proofs.lemmas.List.{take_all}
+use borrow.Author.Count.{below_more}
+use Rattle.std.proofs.lemmas.Option.{get_or_from_slice_get, slice_get_within}
+use Rattle.el_design.specs.Sound.{IsSound, IsFlatNet, IsWidth}
+use Rattle.ev_run.specs.Fitting.{FitNets, FitsStore, FitsScene, swept, IsUnsettled}
+use Rattle.el_design.specs.Plain.{Expr}
 use Rattle.std.proofs.lemmas.Iterator.Adapters.{position_from-zero}
 use Rattle.xt_bits.specs.Word.{Word, word}
 use Rattle.el_design.specs.Plain.{FlatNet, Flat}
 use Rattle.el_design.specs.Store.{Store}
 use Rattle.el_design.specs.Value.{Scene, value}
 use Rattle.el_design.specs.Queue.{scene_of, pin_value, net_aim}
-use Rattle.el_design.specs.Run.{IsSettled}
+use Rattle.el_design.specs.Run.{net_width, IsRow, IsSettled}
 use Rattle.ev_run.specs.Simulated.{pin_in, aims_of}
 
 shift : (t : ℕ → Bool) (ks : List ℕ) (i j : ℕ) → j ≡ i + 1 → position_from t j ks ≡ option_map suc (position_from t i ks)
@@ -75,3 +81,87 @@ aims_settle d row store nets e = record {
 pub aim_pin : (r : Result Word Trouble) (d : Flat) (row : List Word) (s : Scene) (n : ℕ) (net : FlatNet) (pins_now : List ℕ) → net.value ≡ None → pins_now ≡ d.inputs
     → IfOk r (λ x. x ≡ pin_in pins_now row n net.width) → IfOk r (λ x. x ≡ net_aim d row s n net)
 aim_pin r d row s n net ks e p h = subst (λ y. IfOk r (λ x. x ≡ y)) (ap (λ is. pin_in is row n net.width) p ∙ sym (pin_is d row n net.width) ∙ sym (ap (λ o. elim o [ None ↦ pin_value d row n net.width | Some x ↦ word net.width (value d s x).value ]) e)) h
+
+-- ---- what fits
+
+pub all_at : {X : Type 0} (P : X → Type 0) (xs : List X) (i : ℕ) (x : X) → All P xs → slice_get xs i ≡ Some x → P x
+all_at P xs i x all e = subst P (get_or_from_slice_get xs i x x e) (all i x (slice_get_within xs i x e))
+
+pub net_wide : (d : Flat) (at : ℕ) (net : FlatNet) → IsSound d → slice_get d.nets at ≡ Some net → IsWidth net.width
+net_wide d at net sound e = (all_at (IsFlatNet d) d.nets at net sound.nets e).wide
+
+-- ---- what is left of a list from a place on
+
+head_dropped : {X : Type 0} (xs : List X) (at : ℕ) → slice_get (drop at xs) 0 ≡ slice_get xs at
+head_dropped xs zero = refl
+head_dropped [] (suc at) = refl
+head_dropped (x ∷ xs) (suc at) = head_dropped xs at
+
+drop_more : {X : Type 0} (xs : List X) (at : ℕ) (z : X) (zs : List X) → z ∷ zs ≡ drop at xs → zs ≡ drop (suc at) xs
+drop_more [] zero z zs e = cc
+drop_more (x ∷ xs) zero z zs e = cc
+drop_more [] (suc at) z zs e = cc
+drop_more (x ∷ xs) (suc at) z zs e = drop_more xs at z zs e
+
+pub first_left : {X Y : Type 0} (f : Y → X) (xs : List X) (ys : List Y) (at : ℕ) (y : Y) → 1 ≤ length ys → y ≡ get_or ys 0 y → map f ys ≡ drop at xs → slice_get xs at ≡ Some (f y)
+first_left f xs [] at y h e is = absurd (omega (arith, h))
+first_left f xs (z ∷ ys) at y h e is = sym (head_dropped xs at) ∙ sym (ap (λ zs. slice_get zs 0) is) ∙ ap (λ w. Some (f w)) (sym e)
+
+pub others_left : {X Y : Type 0} (f : Y → X) (xs : List X) (ys : List Y) (at : ℕ) → 1 ≤ length ys → map f ys ≡ drop at xs → map f (take (length ys - 1) (drop 1 ys)) ≡ drop (at + 1) xs
+others_left f xs [] at h is = absurd (omega (arith, h))
+others_left f xs (z ∷ ys) at h is = ap (map f) (take_all (length (z ∷ ys) - 1) ys (omega arith)) ∙ drop_more xs at (f z) (map f ys) is ∙ ap (λ n. drop n xs) (sym (add-one at))
+
+-- ---- swept
+
+if_wide : (b : Bool) (x y : Word) (w : ℕ) → (b ≡ true → x.width ≡ w) → y.width ≡ w → (if b then x else y).width ≡ w
+if_wide true x y w f h = f refl
+if_wide false x y w f h = h
+
+pin_wide : (d : Flat) (ks : List ℕ) (row : List Word) (n w : ℕ) → map (λ x. x.width) row ≡ map (net_width d) ks → net_width d n ≡ w → (pin_in ks row n w).width ≡ w
+pin_wide d [] row n w e h = refl
+pin_wide d (k ∷ ks) [] n w e h = refl
+pin_wide d (k ∷ ks) (x ∷ row) n w e h =
+    let at_x : x.width ≡ net_width d k = cc in
+    let others : map (λ y. y.width) row ≡ map (net_width d) ks = cc in
+    if_wide (k == n) x (pin_in ks row n w) w (λ t. at_x ∙ ap (net_width d) (eqb-true k n t) ∙ h) (pin_wide d ks row n w others h)
+
+abbrev valued : Option Expr → Word → (Expr → Word) → Word
+valued o p f = elim o [ None ↦ p | Some x ↦ f x ]
+
+valued_wide : (o : Option Expr) (p : Word) (f : Expr → Word) (w : ℕ) → p.width ≡ w → ((e : Expr) → (f e).width ≡ w) → (valued o p f).width ≡ w
+valued_wide None p f w h g = h
+valued_wide (Some x) p f w h g = g x
+
+aim_wide : (d : Flat) (row : List Word) (s : Scene) (n : ℕ) (net : FlatNet) → IsRow d row → slice_get d.nets n ≡ Some net → (net_aim d row s n net).width ≡ net.width
+aim_wide d row s n net fits e =
+    let there : net_width d n ≡ net.width = ap (λ o. unwrap_or (option_map (λ x. x.width) o) 0) e in
+    valued_wide net.value (pin_value d row n net.width) (λ x. word net.width (value d s x).value) net.width
+    (ap (λ x. x.width) (pin_is d row n net.width) ∙ pin_wide d d.inputs row n net.width fits.0 there) (λ x. refl)
+
+pub aims_fit : (d : Flat) (row : List Word) (s : Scene) → IsRow d row → FitNets d (aims_of d row s 0 d.nets)
+aims_fit d row s fits n net x e got =
+    ap (λ y. y.width) (some_is x (net_aim d row s n net) (sym got ∙ aims_at d row s 0 d.nets n net n (omega arith) e)) ∙ aim_wide d row s n net fits e
+
+pub rounds_fit : (d : Flat) (row : List Word) (store : Store) (n : ℕ) → IsRow d row → FitNets d (swept d row store n)
+rounds_fit d row store zero fits = λ k net x e got. cc
+rounds_fit d row store (suc n) fits = aims_fit d row (scene_of d store (swept d row store n)) fits
+
+-- a scene in which nets take their values in a round
+pub round_scene : (d : Flat) (row : List Word) (store : Store) (nets : List Word) (n : ℕ) → nets ≡ swept d row store n → IsSound d × IsRow d row × FitsStore d store
+    → IsSound d × FitsScene d (scene_of d store nets) × IsRow d row
+round_scene d row store nets n e g = let P : List Word → Type 0 = FitNets d in (g.0, (g.2, subst P (sym e) (rounds_fit d row store n g.1)), g.1)
+
+pub at_scene : (d e : Flat) (s z : Scene) (row : List Word) (ns : List FlatNet) → e ≡ d → s ≡ z → ns ≡ d.nets → IsSound d × FitsScene d z × IsRow d row
+    → IsSound e × FitsScene e s × IsRow e row × (ns ≡ drop 0 e.nets)
+at_scene d e s z row ns p q n g = rw (p, q, n) (g.0, g.1, g.2, refl)
+
+-- one round more
+pub round_after : (d : Flat) (row : List Word) (store : Store) (now next : List Word) (n : ℕ) → now ≡ swept d row store n → next ≡ aims_of d row (scene_of d store now) 0 d.nets
+    → next ≡ swept d row store (n + 1)
+round_after d row store now next n e h = h ∙ ap (λ xs. aims_of d row (scene_of d store xs) 0 d.nets) e ∙ ap (swept d row store) (sym (add-one n))
+
+pub round_differs : (d : Flat) (row : List Word) (store : Store) (now next : List Word) (n : ℕ) → now ≡ swept d row store n → next ≡ aims_of d row (scene_of d store now) 0 d.nets
+    → now ≢ next → IsUnsettled d row store n → IsUnsettled d row store (n + 1)
+round_differs d row store now next n e h differs before =
+    let after = h ∙ ap (λ xs. aims_of d row (scene_of d store xs) 0 d.nets) e in
+    below_more (λ m. swept d row store m ≢ swept d row store (suc m)) n before (λ same. differs (e ∙ same ∙ sym after))

@@ -1,5 +1,5 @@
 -- Events one by one, and the edges of a run one after the other.
-use Rattle.std.proofs.Common.{◌≡◌, ◌≤◌, ◌-◌, inl, inr, Result, Ok, Err, IfOk, get_or, take as front, drop, ℕ, suc, ◌+◌, ◌/◌, ◌%◌, ◌^◌, true, false, List, [], ◌∷◌, ◌++◌, length, length-append, slice_get, Some, option_map, refl, sym, ◌∙◌, ap, subst, add-zero, add-one, arith}
+use Rattle.std.proofs.Common.{zero, Bool, cond, None, map, filter, is_some, ◌≡◌, ◌≤◌, ◌-◌, inl, inr, Result, Ok, Err, IfOk, get_or, take as front, drop, ℕ, suc, ◌+◌, ◌/◌, ◌%◌, ◌^◌, true, false, List, [], ◌∷◌, ◌++◌, length, length-append, slice_get, Some, option_map, refl, sym, ◌∙◌, ap, subst, add-zero, add-one, arith}
 use Rattle.std.proofs.lemmas.List.{length-map, map-append, take_all}
 use Rattle.std.proofs.lemmas.Option.{slice_get-map}
 use Rattle.std.specs.List.{list_any}
@@ -7,10 +7,14 @@ use Rattle.xt_bits.specs.Word.{Word}
 use Rattle.xt_bits.specs.Trace.{Trace}
 use Rattle.xt_bits.specs.Stimulus.{Stimulus}
 use Rattle.el_design.specs.Plain.{Flat}
-use Rattle.el_design.specs.Queue.{Config, Event, take, ready, is_stuck}
-use Rattle.el_design.specs.Run.{Starts, Continues, Takes, Goes, RunsBy, Picked, pick_after, rest_seen, starved_seen}
+use Rattle.std.proofs.lemmas.Bool.{false≢true}
+use Rattle.el_design.specs.Queue.{Config, Event, Run, Follow, Update, numbers, take, ready, is_stuck}
+use Rattle.el_design.specs.Sound.{IsSound}
+use Rattle.el_design.specs.Run.{Starts, Continues, Takes, Goes, RunsBy, Any, Picked, pick_after, rest_seen, starved_seen}
 use Rattle.ev_run.specs.Simulated.{event_seen, events_seen}
 use Rattle.ev_run.specs.declared.queue.Event as code
+use Rattle.ev_run.specs.Fitting.{FitsConfig, HasEvents}
+use Rattle.ev_run.proofs.States.{takes_fit}
 
 -- one event more
 pub takes_more : (d : Flat) (C : ℕ → List Event → Event → Type 0) (k : ℕ) (c : Config) (es : List Event) (mid : Config) (e : Event) (end : Config)
@@ -49,6 +53,43 @@ rows_split (x ∷ rows) row h e = ap (λ y. y ∷ rows) (sym e) ∙ ap (λ ys. r
 pub if_both : {X E : Type 0} (P Q R : X → Type 0) (r : Result X E) → IfOk r P → IfOk r Q → ((x : X) → P x → Q x → R x) → IfOk r R
 if_both P Q R (Ok x) p q f = f x p q
 if_both P Q R (Err e) p q f = tt
+
+-- events under some chooser are events
+pub takes_any : (d : Flat) (C : ℕ → List Event → Event → Type 0) (k n : ℕ) (c : Config) (es : List Event) (end : Config) → Takes d C k c es end → Takes d Any n c es end
+takes_any d C k n c [] end t = t
+takes_any d C k n c (e ∷ es) end t = (tt, (t.1.0, t.1.1, takes_any d C (suc k) (suc n) t.1.0 es end t.1.2))
+
+some_is : {X : Type 0} (a b : X) → Some a ≡ Some b → a ≡ b
+some_is a b e = cc
+
+kept_step : {X : Type 0} (p : X → Bool) (y : X) (rest : List X) (n : ℕ) (x : X) (b : Bool) → p y ≡ b → slice_get (cond b (y ∷ rest) rest) n ≡ Some x
+    → ((m : ℕ) → slice_get rest m ≡ Some x → p x ≡ true) → p x ≡ true
+kept_step p y rest zero x true e h f = ap p (sym (some_is y x h)) ∙ e
+kept_step p y rest (suc n) x true e h f = f n h
+kept_step p y rest n x false e h f = f n h
+
+kept_passes : {X : Type 0} (p : X → Bool) (xs : List X) (n : ℕ) (x : X) → slice_get (filter p xs) n ≡ Some x → p x ≡ true
+kept_passes p [] n x h = cc
+kept_passes p (y ∷ ys) n x h = kept_step p y (filter p ys) n x (p y) refl h (λ m g. kept_passes p ys m x g)
+
+-- an event that may be taken can be
+pub ready_taken : (d : Flat) (c : Config) (events : List code.Event) (next : ℕ) (e : code.Event) → events_seen events ≡ ready d c → slice_get events (next % length events) ≡ Some e
+    → take d c (event_seen e) ≡ None → ⊥
+ready_taken d c events next e r p h =
+    let seen : slice_get (ready d c) (next % length (ready d c)) ≡ Some (event_seen e) = subst (λ ys. slice_get ys (next % length ys) ≡ Some (event_seen e)) r (picked_seen events next e p) in
+    let all = map Run (numbers (length c.procs)) ++ map Follow (numbers (length d.nets)) ++ map Update (numbers (length c.procs)) in
+    let can = kept_passes (λ x. is_some (take d c x)) all (next % length (ready d c)) (event_seen e) seen in
+    false≢true (sym (ap is_some h) ∙ can)
+
+-- a state to which events lead from one that fits
+pub played_fits : (d : Flat) (first : ℕ) (begin now : Config) (es : List code.Event) → Takes d (Picked first) 0 begin (events_seen es) now → IsSound d × FitsConfig d begin
+    → IsSound d × FitsConfig d now
+played_fits d first begin now es t g = (g.0, takes_fit d g.0 (Picked first) 0 begin (events_seen es) now g.1 t)
+
+-- so many events were taken
+pub played_on : (d : Flat) (first k : ℕ) (begin now : Config) (es : List code.Event) (n budget : ℕ) → Takes d (Picked first) k begin (events_seen es) now → length es ≡ n → n ≡ budget
+    → HasEvents d (Picked first) k begin budget
+played_on d first k begin now es n budget t e h = (events_seen es, now, t, length-map es event_seen ∙ e ∙ h)
 
 module _ (d : Flat) (C : ℕ → List Event → Event → Type 0) where
   -- an edge that starved

@@ -3,7 +3,7 @@ use Rattle.std.specs.Prelude.{Vec}
 use Rattle.std.specs.Global.{Global}
 use Rattle.ev_run.specs.declared.operators.Trouble.{Trouble}
 use Rattle.el_design.specs.Act.{Process}
-use Rattle.std.proofs.Common.{◌≡◌, Result, IfOk, subst, ℕ, nat_eq, get_or, ◌&&◌, not, Bool, false, if◌then◌else◌, List, [], ◌∷◌, ◌++◌, map, refl, sym, ◌∙◌, append_assoc}
+use Rattle.std.proofs.Common.{slice_get, Some, ◌≡◌, Result, IfOk, subst, ℕ, nat_eq, get_or, ◌&&◌, not, Bool, false, if◌then◌else◌, List, [], ◌∷◌, ◌++◌, map, refl, sym, ◌∙◌, append_assoc}
 use Rattle.std.specs.List.{list_any}
 use Rattle.std.proofs.lemmas.List.{map-append}
 use Rattle.xt_bits.specs.Stimulus.{Reply}
@@ -12,6 +12,10 @@ use Rattle.el_design.specs.View.{seq_of}
 use Rattle.el_design.specs.Stack.{Work, Do}
 use Rattle.xt_bits.specs.Word.{Word, word}
 use Rattle.el_design.specs.Plain.{FlatNet}
+use Rattle.el_design.specs.Value.{Scene}
+use Rattle.el_design.specs.Run.{IsRow}
+use Rattle.el_design.specs.Sound.{IsSound}
+use Rattle.ev_run.specs.Fitting.{FitsScene, FitsConfig}
 use Rattle.el_design.specs.Queue.{Config, Event, Run, Follow, Update, scene, net_aim, has_value, is_stuck, can_run, can_run_at, ready}
 use Rattle.el_design.specs.Laws.{places_from, has_updates, is_empty}
 use Rattle.ev_run.specs.Simulated.{event_seen, events_seen}
@@ -51,3 +55,8 @@ ready_ok r xs ys e h = subst (λ y. IfOk r (λ v. events_seen v.items ≡ y)) e 
 pub valued_is : (d : Flat) (c : Config) (n : ℕ) (net : FlatNet) (now aim : Word) (a b : ℕ) → a ≡ now.value → b ≡ aim.value
     → now ≡ get_or c.nets n (word net.width 0) → aim ≡ net_aim d c.row (scene d c) n net → nat_eq a b ≡ has_value d c n net
 valued_is d c n net now aim a b a_is b_is now_is aim_is = rw (a_is, b_is, now_is, aim_is)
+
+-- what a net's value is taken in fits
+pub aimed : (d e : Flat) (c : Config) (s : Scene) (n : ℕ) (net : FlatNet) → e ≡ d → s ≡ scene d c → IsSound d × FitsConfig d c × (slice_get d.nets n ≡ Some net)
+    → IsSound e × FitsScene e s × IsRow e c.row × (slice_get e.nets n ≡ Some net)
+aimed d e c s n net p q g = rw (p, q) (g.0, (g.1.store, g.1.nets), g.1.row, g.2)

@@ -1,16 +1,24 @@
 -- What an event does to the state of a run.
-use Rattle.std.proofs.Common.{◌≡◌, ◌<◌, ℕ, zero, suc, true, false, List, [], ◌∷◌, map, set, get_or, length, slice_get, Option, Some, option_map, refl, sym, ◌∙◌, ap, arith}
+use Rattle.std.proofs.Common.{◌≡◌, ◌<◌, ◌≤◌, All, subst, ℕ, zero, suc, true, false, List, [], ◌∷◌, map, set, get_or, length, slice_get, Option, Some, option_map, refl, sym, ◌∙◌, ap, arith}
 use Rattle.std.proofs.lemmas.Bool.{false≢true}
 use Rattle.std.specs.Prelude.{Vec, remove}
 use Rattle.std.specs.Global.{Global}
 use Rattle.xt_bits.specs.Word.{Word}
 use Rattle.el_design.specs.Plain.{FlatNet, Flat}
-use Rattle.el_design.specs.Store.{Store, Write, put_all}
+use Rattle.std.proofs.lemmas.List.Elements.{All-head}
+use Rattle.std.proofs.lemmas.Option.{slice_get_within}
+use Rattle.el_design.specs.Value.{Scene}
+use Rattle.el_design.specs.Sound.{IsSound}
+use Rattle.el_design.specs.Store.{Store, Write, spot_variable, put_all}
 use Rattle.el_design.specs.Act.{Process, Acted, act}
 use Rattle.el_design.specs.Queue.{Config, scene, net_aim, has_value, take_run, take_net, take_update}
 use Rattle.el_design.specs.Laws.{has_updates}
 use Rattle.ev_run.specs.Simulated.{writes_seen, updates_seen}
 use Rattle.ev_run.specs.declared.writes.Write as code
+use Rattle.ev_run.specs.Fitting.{FitsScene, FitsWrite, FitsProcess, FitsConfig}
+use Rattle.ev_run.proofs.Keeping.{in_store}
+use Rattle.ev_run.proofs.Netting.{all_at}
+use Rattle.ev_run.proofs.Steps.{act_fits}
 
 -- the element at a place, seen
 pub seen_at : {X Y : Type 0} (f : X → Y) (xs : List X) (i : ℕ) (x : X) → i < length xs → x ≡ get_or xs i x → slice_get (map f xs) i ≡ Some (f x)
@@ -49,3 +57,32 @@ ran d c i p a store ps e h s t = rw (e, h, s, t)
 -- what an event did, taken out of an option
 pub some_acts : {X Y : Type 0} (o : Option X) (x : X) (f : X → Y) (y : Option Y) → o ≡ Some x → option_map f o ≡ y → y ≡ Some (f x)
 some_acts o x f y e h = sym h ∙ ap (option_map f) e
+
+-- ---- what fits
+
+pub process_fits : (d : Flat) (c : Config) (i : ℕ) (p : Process) → FitsConfig d c → slice_get c.procs i ≡ Some p → FitsProcess d p
+process_fits d c i p f e = all_at (FitsProcess d) c.procs i p f.procs e
+
+-- what the event of a process is taken in
+pub acting : (d e : Flat) (c : Config) (s : Scene) (i : ℕ) (p : Process) → e ≡ d → s ≡ scene d c → slice_get c.procs i ≡ Some p → IsSound d × FitsConfig d c
+    → IsSound e × FitsScene e s × FitsProcess e p
+acting d e c s i p q r is g = rw (q, r) (g.0, (g.1.store, g.1.nets), process_fits d c i p g.1 is)
+
+-- what a process writes is in the store
+pub writes_in : (d : Flat) (c : Config) (s : Scene) (i : ℕ) (p : Process) (a : Acted) (ws : List Write) → slice_get c.procs i ≡ Some p → act d s p ≡ Some a → ws ≡ a.writes
+    → IsSound d × FitsConfig d c → All (λ w. spot_variable w.spot < length c.store) ws
+writes_in d c s i p a ws is e w g =
+    let P : List Write → Type 0 = λ xs. All (λ x. spot_variable x.spot < length c.store) xs in
+    subst P (sym w) (in_store d c.store a.writes g.1.store (act_fits d g.0 s p a (process_fits d c i p g.1 is) e).1)
+
+-- and so is its oldest update
+pub oldest_in : (d : Flat) (c : Config) (i : ℕ) (p : Process) (u ws : List Write) (us : List (List Write)) → slice_get c.procs i ≡ Some p → p.updates ≡ u ∷ us → ws ≡ u → FitsConfig d c
+    → All (λ w. spot_variable w.spot < length c.store) ws
+oldest_in d c i p u ws us is e w f =
+    let P : List Write → Type 0 = λ xs. All (λ x. spot_variable x.spot < length c.store) xs in
+    let Q : List (List Write) → Type 0 = λ xs. All (All (FitsWrite d)) xs in
+    subst P (sym w) (in_store d c.store u f.store (All-head (All (FitsWrite d)) u us (subst Q e (process_fits d c i p f is).1)))
+
+-- each net has a value
+pub has_place : (d : Flat) (c : Config) (n : ℕ) (net : FlatNet) → slice_get d.nets n ≡ Some net → length c.nets ≤ n → FitsConfig d c → ⊥
+has_place d c n net e h f = let within = slice_get_within d.nets n net e in omega (arith, f.size, within)

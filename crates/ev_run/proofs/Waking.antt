@@ -1,25 +1,18 @@
 -- Stacks, as the code takes steps on them.
-use Rattle.std.proofs.Common.{◌≡◌, ℕ, zero, suc, true, false, List, [], ◌∷◌, Some, None, refl, sym, ◌∙◌}
+use Rattle.std.proofs.Common.{◌≡◌, true, false, List, [], ◌∷◌, refl}
 use Rattle.el_design.specs.Plain.{Statement, Null, Skip, Seq, Block, Assign, If, Case, Arm, For, While, Repeat, Forever, Wait, Enable, Disable, Host}
 use Rattle.el_design.specs.View.{seq_of}
-use Rattle.el_design.specs.Stack.{Work, Do, End, Return, Test, Step, Turns, Await, quiet_step, IsStill, settle, is_waiting, wake}
-use Rattle.el_design.specs.Laws.{QuietSteps}
-use Rattle.el_design.proofs.Settling.{stacks_settle}
-
-pub settle_step : (k next : List Work) → quiet_step k ≡ Some next → settle next ≡ settle k
-settle_step k = (stacks_settle k).2
-
--- a still stack is what it comes to
-pub still_settled : (k : List Work) → IsStill k → settle k ≡ k
-still_settled k h = go (stacks_settle k).0
-  where
-    go : ((n : ℕ) × QuietSteps n k (settle k)) → settle k ≡ k
-    go (zero, e) = sym e
-    go (suc n, x) = absurd (let e : None ≡ Some x.0 = sym h ∙ x.1 in cc)
+use Rattle.el_design.specs.Stack.{Work, Do, End, Return, Test, Step, Turns, Await, settle, is_waiting, wake}
+use Rattle.ev_run.specs.Endless.{is_endless}
 
 pub rest_waits : (ss : List Statement) (k : List Work) → is_waiting (Do (seq_of ss) ∷ k) ≡ false
 rest_waits [] k = refl
 rest_waits (s ∷ ss) k = refl
+
+-- what is left of a block ends
+pub rest_ends : (ss : List Statement) → is_endless (Do (seq_of ss)) ≡ false
+rest_ends [] = refl
+rest_ends (s ∷ ss) = refl
 
 -- past a wait on top, and where none is
 pub wakes : (w : Work) (k : List Work) → is_waiting (w ∷ k) ≡ true → wake (w ∷ k) ≡ settle k

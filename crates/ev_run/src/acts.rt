@@ -1,11 +1,14 @@
 //! The event of a process.
-ghost use Rattle.std.specs.Prelude.{◌≡◌, ◌∷◌, map, IfOk, MatchResult, true, Some, option_map};
+ghost use Rattle.std.specs.Prelude.{◌≡◌, ◌∷◌, map, IfOk, MatchResult, true, Some, option_map, IfErr};
 ghost use Rattle.el_design.specs.Act as spec;
 ghost use Rattle.el_design.specs.Assign as assigns;
 ghost use Rattle.el_design.specs.Value as values;
 ghost use Rattle.el_design.specs.Plain as plain;
 ghost use Rattle.el_design.specs.View.{expr_of, lvalue_of, statement_of, arm_of, arms_of};
 ghost use Rattle.ev_run.specs.Simulated.{flat_seen, scene_seen, work_seen, stack_seen, writes_seen, process_seen, acted_seen};
+ghost use Rattle.el_design.specs.Names.{labels_in};
+ghost use Rattle.el_design.specs.Sound.{IsSound, IsStatement};
+ghost use Rattle.ev_run.specs.Fitting.{Fails, FitsScene, IsDeclared, IsWellMade, AreWellMade, FitsWork, FitsProcess};
 
 use crate::enables::{enable, leave};
 use crate::loops::{start_for, start_repeat, step_for, test_for, test_while, turn};
@@ -21,15 +24,11 @@ use std::alloc::Global;
 use xt_base::Place;
 
 /// The process goes on with the work on its stack.
-pub fn ran(
-    at: Place,
-    writes: Vec<Write>,
-    process: &mut Process,
-    budget: u64,
-) -> Result<Acted, Trouble>
-    ensures { IfOk result (λ a. Some (acted_seen process.new a) ≡ spec.ran at (writes_seen writes.items) (process_seen process.old) (stack_seen process.old.stack)) }
+pub fn ran(at: Place, writes: Vec<Write>, process: &mut Process) -> Result<Acted, Trouble>
+    ensures gives { IfOk result (λ a. Some (acted_seen process.new a) ≡ spec.ran at (writes_seen writes.items) (process_seen process.old) (stack_seen process.old.stack)) }
+    ensures failed { IfErr result (λ t. t ≡ Trouble.Memory) }
 {
-    settle(&mut process.stack, budget)?;
+    settle(&mut process.stack)?;
     Ok(Acted {
         did: Did::Ran,
         at,
@@ -43,12 +42,12 @@ fn held(
     at: Place,
     writes: Vec<Write>,
     process: &mut Process,
-    budget: u64,
 ) -> Result<Acted, Trouble>
-    ensures { IfOk result (λ a. Some (acted_seen process.new a) ≡ spec.assigned at (writes_seen writes.items) true (process_seen process.old) (stack_seen process.old.stack)) }
+    ensures gives { IfOk result (λ a. Some (acted_seen process.new a) ≡ spec.assigned at (writes_seen writes.items) true (process_seen process.old) (stack_seen process.old.stack)) }
+    ensures failed { IfErr result (λ t. t ≡ Trouble.Memory) }
 {
     process.updates.push(writes)?;
-    ran(at, Vec::new(alloc), process, budget)
+    ran(at, Vec::new(alloc), process)
 }
 
 fn assign(
@@ -59,16 +58,16 @@ fn assign(
     to: &Target,
     e: &TExpr,
     is_held: bool,
-    budget: u64,
 ) -> Result<Acted, Trouble>
-    ensures { IfOk result (λ a. Some (acted_seen process.new a) ≡ spec.act_do (flat_seen scene.now) (scene_seen scene.now) (process_seen process.old) (stack_seen process.old.stack) (plain.Assign at (lvalue_of to.now) (expr_of e.now) is_held)) }
+    ensures gives { IfOk result (λ a. Some (acted_seen process.new a) ≡ spec.act_do (flat_seen scene.now) (scene_seen scene.now) (process_seen process.old) (stack_seen process.old.stack) (plain.Assign at (lvalue_of to.now) (expr_of e.now) is_held)) }
+    ensures failed { IfErr result (λ t. Fails t (IsSound (flat_seen scene.now) × FitsScene (flat_seen scene.now) (scene_seen scene.now) × IsStatement (flat_seen scene.now) (plain.Assign at (lvalue_of to.now) (expr_of e.now) is_held))) }
 {
-    let x = value(alloc, scene, e, budget)?;
-    let writes = writes_of(alloc, scene, to, x, budget)?;
+    let x = value(alloc, scene, e)?;
+    let writes = writes_of(alloc, scene, to, x)?;
     if is_held {
-        held(alloc, at, writes, process, budget)
+        held(alloc, at, writes, process)
     } else {
-        ran(at, writes, process, budget)
+        ran(at, writes, process)
     }
 }
 
@@ -80,20 +79,21 @@ pub fn set_variable(
     at: Place,
     var: u32,
     e: &TExpr,
-    budget: u64,
 ) -> Result<Acted, Trouble>
-    ensures { IfOk result (λ a. Some (acted_seen process.new a) ≡ spec.ran at (assigns.writes_of (flat_seen scene.now) (scene_seen scene.now) (plain.ToVariable var) (values.value (flat_seen scene.now) (scene_seen scene.now) (expr_of e.now))) (process_seen process.old) (stack_seen process.old.stack)) }
+    ensures gives { IfOk result (λ a. Some (acted_seen process.new a) ≡ spec.ran at (assigns.writes_of (flat_seen scene.now) (scene_seen scene.now) (plain.ToVariable var) (values.value (flat_seen scene.now) (scene_seen scene.now) (expr_of e.now))) (process_seen process.old) (stack_seen process.old.stack)) }
+    ensures failed { IfErr result (λ t. Fails t (IsSound (flat_seen scene.now) × FitsScene (flat_seen scene.now) (scene_seen scene.now) × IsDeclared (flat_seen scene.now) var × IsWellMade (flat_seen scene.now) (expr_of e.now))) }
 {
-    let x = value(alloc, scene, e, budget)?;
+    let x = value(alloc, scene, e)?;
     let writes = variable_writes(alloc, scene, var, x)?;
-    ran(at, writes, process, budget)
+    ran(at, writes, process)
 }
 
 /// A test.
-pub fn holds(alloc: Global, scene: &Scene, test: &TExpr, budget: u64) -> Result<bool, Trouble>
-    ensures { IfOk result (λ b. b ≡ values.is_up (values.value (flat_seen scene.now) (scene_seen scene.now) (expr_of test.now))) }
+pub fn holds(alloc: Global, scene: &Scene, test: &TExpr) -> Result<bool, Trouble>
+    ensures gives { IfOk result (λ b. b ≡ values.is_up (values.value (flat_seen scene.now) (scene_seen scene.now) (expr_of test.now))) }
+    ensures failed { IfErr result (λ t. Fails t (IsSound (flat_seen scene.now) × FitsScene (flat_seen scene.now) (scene_seen scene.now) × IsWellMade (flat_seen scene.now) (expr_of test.now))) }
 {
-    Ok(value(alloc, scene, test, budget)?.any())
+    Ok(value(alloc, scene, test)?.any())
 }
 
 fn branch<'a>(
@@ -104,17 +104,13 @@ fn branch<'a>(
     test: &TExpr,
     yes: &'a Stmt,
     no: &'a Stmt,
-    budget: u64,
 ) -> Result<Acted, Trouble>
-    ensures { IfOk result (λ a. Some (acted_seen process.new a) ≡ spec.act_do (flat_seen scene.now) (scene_seen scene.now) (process_seen process.old) (stack_seen process.old.stack) (plain.If at (expr_of test.now) (statement_of yes.now) (statement_of no.now))) }
+    ensures gives { IfOk result (λ a. Some (acted_seen process.new a) ≡ spec.act_do (flat_seen scene.now) (scene_seen scene.now) (process_seen process.old) (stack_seen process.old.stack) (plain.If at (expr_of test.now) (statement_of yes.now) (statement_of no.now))) }
+    ensures failed { IfErr result (λ t. Fails t (IsSound (flat_seen scene.now) × FitsScene (flat_seen scene.now) (scene_seen scene.now) × IsStatement (flat_seen scene.now) (plain.If at (expr_of test.now) (statement_of yes.now) (statement_of no.now)))) }
 {
-    let chosen = if holds(alloc, scene, test, budget)? {
-        yes
-    } else {
-        no
-    };
+    let chosen = if holds(alloc, scene, test)? { yes } else { no };
     process.stack.insert(0, Work::Do(chosen))?;
-    ran(at, Vec::new(alloc), process, budget)
+    ran(at, Vec::new(alloc), process)
 }
 
 /// The first arm with an equal label, else the default.
@@ -125,17 +121,17 @@ fn arm_chosen<'a>(
     on: &TExpr,
     arms: &'a [Arm],
     other: &'a Stmt,
-    budget: u64,
 ) -> Result<&'a Stmt, Trouble>
-    ensures { IfOk result (λ s. statement_of s.now ≡ assigns.arm_chosen (flat_seen scene.now) (scene_seen scene.now) (arms_of (expr_of on.now) (map arm_of arms.now) (statement_of other.now))) }
+    ensures gives { IfOk result (λ s. statement_of s.now ≡ assigns.arm_chosen (flat_seen scene.now) (scene_seen scene.now) (arms_of (expr_of on.now) (map arm_of arms.now) (statement_of other.now))) }
+    ensures failed { IfErr result (λ t. Fails t (IsSound (flat_seen scene.now) × FitsScene (flat_seen scene.now) (scene_seen scene.now) × IsWellMade (flat_seen scene.now) (expr_of on.now) × AreWellMade (flat_seen scene.now) (labels_in (arms_of (expr_of on.now) (map arm_of arms.now) (statement_of other.now))))) }
 {
     match arms {
         [] => Ok(other),
         [arm, rest @ ..] => {
-            if has_label(alloc, scene, on, arm.labels.as_slice(), budget)? {
+            if has_label(alloc, scene, on, arm.labels.as_slice())? {
                 Ok(&arm.body)
             } else {
-                arm_chosen(alloc, scene, on, rest, other, budget)
+                arm_chosen(alloc, scene, on, rest, other)
             }
         }
     }
@@ -149,13 +145,13 @@ fn choose<'a>(
     on: &TExpr,
     arms: &'a [Arm],
     other: &'a Stmt,
-    budget: u64,
 ) -> Result<Acted, Trouble>
-    ensures { IfOk result (λ a. Some (acted_seen process.new a) ≡ spec.act_do (flat_seen scene.now) (scene_seen scene.now) (process_seen process.old) (stack_seen process.old.stack) (plain.Case at (expr_of on.now) (arms_of (expr_of on.now) (map arm_of arms.now) (statement_of other.now)))) }
+    ensures gives { IfOk result (λ a. Some (acted_seen process.new a) ≡ spec.act_do (flat_seen scene.now) (scene_seen scene.now) (process_seen process.old) (stack_seen process.old.stack) (plain.Case at (expr_of on.now) (arms_of (expr_of on.now) (map arm_of arms.now) (statement_of other.now)))) }
+    ensures failed { IfErr result (λ t. Fails t (IsSound (flat_seen scene.now) × FitsScene (flat_seen scene.now) (scene_seen scene.now) × IsStatement (flat_seen scene.now) (plain.Case at (expr_of on.now) (arms_of (expr_of on.now) (map arm_of arms.now) (statement_of other.now))))) }
 {
-    let chosen = arm_chosen(alloc, scene, on, arms, other, budget)?;
+    let chosen = arm_chosen(alloc, scene, on, arms, other)?;
     process.stack.insert(0, Work::Do(chosen))?;
-    ran(at, Vec::new(alloc), process, budget)
+    ran(at, Vec::new(alloc), process)
 }
 
 /// A `disable`: what lies above the nearest end with its mark is dropped, with that end.
@@ -165,14 +161,14 @@ fn disable(
     process: &mut Process,
     at: Place,
     mark: u32,
-    budget: u64,
 ) -> Result<Acted, Trouble>
-    ensures { IfOk result (λ a. Some (acted_seen process.new a) ≡ spec.act_do (flat_seen scene.now) (scene_seen scene.now) (process_seen process.old) (stack_seen process.old.stack) (plain.Disable at mark)) }
+    ensures gives { IfOk result (λ a. Some (acted_seen process.new a) ≡ spec.act_do (flat_seen scene.now) (scene_seen scene.now) (process_seen process.old) (stack_seen process.old.stack) (plain.Disable at mark)) }
+    ensures failed { IfErr result (λ t. t ≡ Trouble.Memory) }
 {
     if let Some(below) = below_mark(process.stack.as_slice(), mark) {
         process.stack = Vec::from_slice(alloc, below)?;
     }
-    ran(at, Vec::new(alloc), process, budget)
+    ran(at, Vec::new(alloc), process)
 }
 
 fn done(acted: Result<Acted, Trouble>) -> Result<Option<Acted>, Trouble>
@@ -190,9 +186,9 @@ fn act_do<'a>(
     scene: &Scene<'a, '_>,
     process: &mut Process<'a>,
     statement: &'a Stmt,
-    budget: u64,
 ) -> Result<Option<Acted>, Trouble>
-    ensures { IfOk result (λ a. option_map (acted_seen process.new) a ≡ spec.act_do (flat_seen scene.now) (scene_seen scene.now) (process_seen process.old) (stack_seen process.old.stack) (statement_of statement.now)) }
+    ensures gives { IfOk result (λ a. option_map (acted_seen process.new) a ≡ spec.act_do (flat_seen scene.now) (scene_seen scene.now) (process_seen process.old) (stack_seen process.old.stack) (statement_of statement.now)) }
+    ensures failed { IfErr result (λ t. Fails t (IsSound (flat_seen scene.now) × FitsScene (flat_seen scene.now) (scene_seen scene.now) × IsStatement (flat_seen scene.now) (statement_of statement.now))) }
 {
     match statement {
         Stmt::Null => Ok(None),
@@ -204,34 +200,16 @@ fn act_do<'a>(
             to,
             value,
             held,
-        } => done(assign(alloc, scene, process, *at, to, value, *held, budget)),
+        } => done(assign(alloc, scene, process, *at, to, value, *held)),
         Stmt::If { at, test, yes, no } => {
-            done(branch(
-                alloc,
-                scene,
-                process,
-                *at,
-                test,
-                yes.get(),
-                no.get(),
-                budget,
-            ))
+            done(branch(alloc, scene, process, *at, test, yes.get(), no.get()))
         }
         Stmt::Case {
             at,
             on,
             arms,
             other,
-        } => done(choose(
-            alloc,
-            scene,
-            process,
-            *at,
-            on,
-            arms.as_slice(),
-            other.get(),
-            budget,
-        )),
+        } => done(choose(alloc, scene, process, *at, on, arms.as_slice(), other.get())),
         Stmt::For {
             at,
             var,
@@ -249,22 +227,12 @@ fn act_do<'a>(
             test,
             next,
             body.get(),
-            budget,
         )),
         Stmt::While { at, test, body } => {
-            done(test_while(
-                alloc,
-                scene,
-                process,
-                *at,
-                statement,
-                test,
-                body.get(),
-                budget,
-            ))
+            done(test_while(alloc, scene, process, *at, statement, test, body.get()))
         }
         Stmt::Repeat { at, count, body } => {
-            done(start_repeat(alloc, scene, process, *at, count, body.get(), budget))
+            done(start_repeat(alloc, scene, process, *at, count, body.get()))
         }
         Stmt::Enable {
             at,
@@ -279,9 +247,8 @@ fn act_do<'a>(
             *task,
             ins.as_slice(),
             outs.as_slice(),
-            budget,
         )),
-        Stmt::Disable { at, mark } => done(disable(alloc, scene, process, *at, *mark, budget)),
+        Stmt::Disable { at, mark } => done(disable(alloc, scene, process, *at, *mark)),
         Stmt::Host {
             at,
             import,
@@ -297,7 +264,6 @@ fn act_do<'a>(
             ins.as_slice(),
             result,
             outs.as_slice(),
-            budget,
         )),
     }
 }
@@ -309,12 +275,12 @@ fn act_top<'a>(
     scene: &Scene<'a, '_>,
     process: &mut Process<'a>,
     top: Work<'a>,
-    budget: u64,
 ) -> Result<Option<Acted>, Trouble>
-    ensures { IfOk result (λ a. option_map (acted_seen process.new) a ≡ spec.act_top (flat_seen scene.now) (scene_seen scene.now) (process_seen process.old) (work_seen top.entry ∷ stack_seen process.old.stack)) }
+    ensures gives { IfOk result (λ a. option_map (acted_seen process.new) a ≡ spec.act_top (flat_seen scene.now) (scene_seen scene.now) (process_seen process.old) (work_seen top.entry ∷ stack_seen process.old.stack)) }
+    ensures failed { IfErr result (λ t. Fails t (IsSound (flat_seen scene.now) × FitsScene (flat_seen scene.now) (scene_seen scene.now) × FitsWork (flat_seen scene.now) (work_seen top.entry))) }
 {
     match top {
-        Work::Do(statement) => act_do(alloc, scene, process, statement, budget),
+        Work::Do(statement) => act_do(alloc, scene, process, statement),
         Work::Rest(_) => Ok(None),
         Work::Again { .. } => Ok(None),
         Work::End(_) => Ok(None),
@@ -323,28 +289,28 @@ fn act_top<'a>(
             mark: _,
             formals,
             outs,
-        } => done(leave(alloc, scene, process, at, formals, outs, budget)),
+        } => done(leave(alloc, scene, process, at, formals, outs)),
         Work::Test {
             at,
             var,
             test,
             next,
             body,
-        } => done(test_for(alloc, scene, process, at, var, test, next, body, budget)),
+        } => done(test_for(alloc, scene, process, at, var, test, next, body)),
         Work::Step {
             at,
             var,
             test,
             next,
             body,
-        } => done(step_for(alloc, scene, process, at, var, test, next, body, budget)),
-        Work::Turns { at, left, body } => done(turn(alloc, process, at, left, body, budget)),
+        } => done(step_for(alloc, scene, process, at, var, test, next, body)),
+        Work::Turns { at, left, body } => done(turn(alloc, process, at, left, body)),
         Work::Await {
             at,
             import,
             result,
             outs,
-        } => take_reply(alloc, scene, process, at, import, result, outs, budget),
+        } => take_reply(alloc, scene, process, at, import, result, outs),
     }
 }
 
@@ -354,13 +320,13 @@ pub fn act<'a>(
     alloc: Global,
     scene: &Scene<'a, '_>,
     process: &mut Process<'a>,
-    budget: u64,
 ) -> Result<Option<Acted>, Trouble>
-    ensures { IfOk result (λ a. option_map (acted_seen process.new) a ≡ spec.act (flat_seen scene.now) (scene_seen scene.now) (process_seen process.old)) }
+    ensures gives { IfOk result (λ a. option_map (acted_seen process.new) a ≡ spec.act (flat_seen scene.now) (scene_seen scene.now) (process_seen process.old)) }
+    ensures failed { IfErr result (λ t. Fails t (IsSound (flat_seen scene.now) × FitsScene (flat_seen scene.now) (scene_seen scene.now) × FitsProcess (flat_seen scene.now) (process_seen process.old))) }
 {
     if process.stack.is_empty() {
         return Ok(None);
     }
     let top = process.stack.remove(0);
-    act_top(alloc, scene, process, top, budget)
+    act_top(alloc, scene, process, top)
 }

@@ -1,9 +1,11 @@
 //! The events of an edge, under a pick.
-ghost use Rattle.std.specs.Prelude.{◌≡◌, [], ◌+◌, ◌/◌, ◌%◌, ◌^◌, ◌<◌, ℕ, suc, length, slice_get, Some, IfOk};
+ghost use Rattle.std.specs.Prelude.{◌≡◌, [], ◌+◌, ◌/◌, ◌%◌, ◌^◌, ◌<◌, ℕ, suc, length, slice_get, Some, IfOk, IfErr};
 ghost use Rattle.el_design.specs.Queue as queue;
 ghost use Rattle.el_design.specs.Run as spec;
 ghost use Rattle.el_design.specs.View.{flat_of};
 ghost use Rattle.ev_run.specs.Simulated.{config_seen, events_seen};
+ghost use Rattle.el_design.specs.Sound.{IsSound};
+ghost use Rattle.ev_run.specs.Fitting.{GivesUp, FitsConfig, HasEvents};
 
 use crate::events::take;
 use crate::operators::Trouble;
@@ -36,16 +38,17 @@ pub fn play<'a>(
 ) -> Result<Vec<Event>, Trouble>
     ensures taken { IfOk result (λ es. (first k : ℕ) → pick.old ≡ spec.pick_after first k → spec.Takes (flat_of design.now) (spec.Picked first) k (config_seen config.old) (events_seen es.items) (config_seen config.new) × (pick.new ≡ spec.pick_after first (k + length es.items))) }
     ensures done { IfOk result (λ es. queue.ready (flat_of design.now) (config_seen config.new) ≡ []) }
+    ensures failed { IfErr result (λ t. GivesUp t (IsSound (flat_of design.now) × FitsConfig (flat_of design.now) (config_seen config.old)) ((first k : ℕ) → pick.old ≡ spec.pick_after first k → HasEvents (flat_of design.now) (spec.Picked first) k (config_seen config.old) budget)) }
 {
     let mut taken = Vec::new(alloc);
     for _event in 0..budget {
-        let events = ready(alloc, design, config, budget)?;
+        let events = ready(alloc, design, config)?;
         if events.is_empty() {
             return Ok(taken);
         }
         *pick = advanced(*pick);
         let event = picked(*pick, events.as_slice());
-        if !take(alloc, design, config, event, budget)? {
+        if !take(alloc, design, config, event)? {
             return Err(Trouble::Unsound);
         }
         taken.push(event)?;

@@ -1,11 +1,13 @@
 //! The events of enables and of their ends.
-ghost use Rattle.std.specs.Prelude.{◌≡◌, ◌++◌, unwrap_or, map, zip, IfOk, false, Some, option_map, slice_get};
+ghost use Rattle.std.specs.Prelude.{◌≡◌, ◌++◌, unwrap_or, map, zip, IfOk, false, Some, option_map, slice_get, IfErr, All, ◌<◌, length};
 ghost use Rattle.el_design.specs.Act as spec;
 ghost use Rattle.el_design.specs.Assign as assigns;
 ghost use Rattle.el_design.specs.Store as stores;
 ghost use Rattle.el_design.specs.Plain as plain;
 ghost use Rattle.el_design.specs.View.{expr_of, lvalue_of};
+ghost use Rattle.el_design.specs.Sound.{IsSound, IsStatement};
 ghost use Rattle.ev_run.specs.Simulated.{flat_seen, scene_seen, stack_seen, writes_seen, process_seen, acted_seen};
+ghost use Rattle.ev_run.specs.Fitting.{Fails, FitsScene, FitsOutput, IsDeclared, IsWellMade};
 
 use crate::acts::ran;
 use crate::operators::Trouble;
@@ -23,7 +25,8 @@ use xt_bits::Bits;
 /// The writes joined.
 #[tactic(auto, using(crate::proofs::Outputs::seen_append))]
 pub fn joined(first: Vec<Write>, more: Vec<Write>) -> Result<Vec<Write>, Trouble>
-    ensures { IfOk result (λ v. writes_seen v.items ≡ writes_seen first.items ++ writes_seen more.items) }
+    ensures gives { IfOk result (λ v. writes_seen v.items ≡ writes_seen first.items ++ writes_seen more.items) }
+    ensures failed { IfErr result (λ t. t ≡ Trouble.Memory) }
 {
     let mut all = first;
     let mut more = more;
@@ -37,18 +40,18 @@ fn copied_in(
     scene: &Scene,
     formals: &[u32],
     ins: &[TExpr],
-    budget: u64,
 ) -> Result<Vec<Write>, Trouble>
-    ensures { IfOk result (λ v. writes_seen v.items ≡ spec.copied_in (flat_seen scene.now) (scene_seen scene.now) (zip formals.now (map expr_of ins.now))) }
+    ensures gives { IfOk result (λ v. writes_seen v.items ≡ spec.copied_in (flat_seen scene.now) (scene_seen scene.now) (zip formals.now (map expr_of ins.now))) }
+    ensures failed { IfErr result (λ t. Fails t (IsSound (flat_seen scene.now) × FitsScene (flat_seen scene.now) (scene_seen scene.now) × All (λ x. IsDeclared (flat_seen scene.now) x.0 × IsWellMade (flat_seen scene.now) x.1) (zip formals.now (map expr_of ins.now)))) }
 {
     match formals {
         [] => Ok(Vec::new(alloc)),
         [formal, formals @ ..] => match ins {
             [] => Ok(Vec::new(alloc)),
             [e, ins @ ..] => {
-                let x = value(alloc, scene, e, budget)?;
+                let x = value(alloc, scene, e)?;
                 let writes = variable_writes(alloc, scene, *formal, x)?;
-                joined(writes, copied_in(alloc, scene, formals, ins, budget)?)
+                joined(writes, copied_in(alloc, scene, formals, ins)?)
             }
         },
     }
@@ -60,7 +63,8 @@ pub fn store_after(
     store: &[Items<Bits>],
     writes: &[Write],
 ) -> Result<Items<Items<Bits>>, Trouble>
-    ensures { IfOk result (λ v. v ≡ stores.put_all store.now (writes_seen writes.now)) }
+    ensures gives { IfOk result (λ v. v ≡ stores.put_all store.now (writes_seen writes.now)) }
+    ensures failed { IfErr result (λ t. Fails t (All (λ w. stores.spot_variable w.spot < length store.now) (writes_seen writes.now))) }
 {
     let mut store = Items::from_vec(copied(alloc, store)?);
     put_all(alloc, &mut store, writes)?;
@@ -68,7 +72,8 @@ pub fn store_after(
 }
 
 fn copied(alloc: Global, store: &[Items<Bits>]) -> Result<Vec<Items<Bits>>, Trouble>
-    ensures { IfOk result (λ v. v.items ≡ store.now) }
+    ensures gives { IfOk result (λ v. v.items ≡ store.now) }
+    ensures failed { IfErr result (λ t. t ≡ Trouble.Memory) }
 {
     match store {
         [] => Ok(Vec::new(alloc)),
@@ -87,15 +92,15 @@ fn copy_out(
     scene: &Scene,
     formal: u32,
     target: &Target,
-    budget: u64,
 ) -> Result<Vec<Write>, Trouble>
-    ensures { IfOk result (λ v. writes_seen v.items ≡ assigns.copies_to (flat_seen scene.now) (scene_seen scene.now) (lvalue_of target.now) (stores.stored (scene_seen scene.now).store formal 0 (stores.width_of (flat_seen scene.now) formal)) (unwrap_or (option_map (λ x. x.signed) (slice_get (flat_seen scene.now).vars formal)) false)) }
+    ensures gives { IfOk result (λ v. writes_seen v.items ≡ assigns.copies_to (flat_seen scene.now) (scene_seen scene.now) (lvalue_of target.now) (stores.stored (scene_seen scene.now).store formal 0 (stores.width_of (flat_seen scene.now) formal)) (unwrap_or (option_map (λ x. x.signed) (slice_get (flat_seen scene.now).vars formal)) false)) }
+    ensures failed { IfErr result (λ t. Fails t (IsSound (flat_seen scene.now) × FitsScene (flat_seen scene.now) (scene_seen scene.now) × IsDeclared (flat_seen scene.now) formal × FitsOutput (flat_seen scene.now) (lvalue_of target.now))) }
 {
     let Some(var) = scene.design.vars.get(formal as usize) else {
         return Err(Trouble::Unsound);
     };
     let x = stored(scene.store, formal, 0, var.width)?;
-    copies_to(alloc, scene, target, x, var.signed, budget)
+    copies_to(alloc, scene, target, x, var.signed)
 }
 
 /// The outputs of a task at its return, in order.
@@ -104,16 +109,16 @@ fn copied_out(
     scene: &Scene,
     formals: &[u32],
     outs: &[Target],
-    budget: u64,
 ) -> Result<Vec<Write>, Trouble>
-    ensures { IfOk result (λ v. writes_seen v.items ≡ spec.copied_out (flat_seen scene.now) (scene_seen scene.now) (zip formals.now (map lvalue_of outs.now))) }
+    ensures gives { IfOk result (λ v. writes_seen v.items ≡ spec.copied_out (flat_seen scene.now) (scene_seen scene.now) (zip formals.now (map lvalue_of outs.now))) }
+    ensures failed { IfErr result (λ t. Fails t (IsSound (flat_seen scene.now) × FitsScene (flat_seen scene.now) (scene_seen scene.now) × All (λ x. IsDeclared (flat_seen scene.now) x.0 × FitsOutput (flat_seen scene.now) x.1) (zip formals.now (map lvalue_of outs.now)))) }
 {
     match formals {
         [] => Ok(Vec::new(alloc)),
         [formal, formals @ ..] => match outs {
             [] => Ok(Vec::new(alloc)),
             [target, outs @ ..] => {
-                let writes = copy_out(alloc, scene, *formal, target, budget)?;
+                let writes = copy_out(alloc, scene, *formal, target)?;
                 let store = store_after(alloc, scene.store, writes.as_slice())?;
                 let after = Scene {
                     design: scene.design,
@@ -121,7 +126,7 @@ fn copied_out(
                     nets: scene.nets,
                     store: store.as_slice(),
                 };
-                let more = copied_out(alloc, &after, formals, outs, budget)?;
+                let more = copied_out(alloc, &after, formals, outs)?;
                 joined(writes, more)
             }
         },
@@ -138,14 +143,14 @@ pub fn enable<'a>(
     task: u32,
     ins: &[TExpr],
     outs: &'a [Target],
-    budget: u64,
 ) -> Result<Acted, Trouble>
-    ensures { IfOk result (λ a. Some (acted_seen process.new a) ≡ spec.act_do (flat_seen scene.now) (scene_seen scene.now) (process_seen process.old) (stack_seen process.old.stack) (plain.Enable at task (map expr_of ins.now) (map lvalue_of outs.now))) }
+    ensures gives { IfOk result (λ a. Some (acted_seen process.new a) ≡ spec.act_do (flat_seen scene.now) (scene_seen scene.now) (process_seen process.old) (stack_seen process.old.stack) (plain.Enable at task (map expr_of ins.now) (map lvalue_of outs.now))) }
+    ensures failed { IfErr result (λ t. Fails t (IsSound (flat_seen scene.now) × FitsScene (flat_seen scene.now) (scene_seen scene.now) × IsStatement (flat_seen scene.now) (plain.Enable at task (map expr_of ins.now) (map lvalue_of outs.now)))) }
 {
     let Some(task) = scene.design.tasks.get(task as usize) else {
         return Err(Trouble::Unsound);
     };
-    let writes = copied_in(alloc, scene, task.ins.as_slice(), ins, budget)?;
+    let writes = copied_in(alloc, scene, task.ins.as_slice(), ins)?;
     process.stack.insert(
         0,
         Work::Return {
@@ -156,7 +161,7 @@ pub fn enable<'a>(
         },
     )?;
     process.stack.insert(0, Work::Do(&task.body))?;
-    ran(at, writes, process, budget)
+    ran(at, writes, process)
 }
 
 /// The return from a task.
@@ -167,10 +172,10 @@ pub fn leave(
     at: Place,
     formals: &[u32],
     outs: &[Target],
-    budget: u64,
 ) -> Result<Acted, Trouble>
-    ensures { IfOk result (λ a. Some (acted_seen process.new a) ≡ spec.ran at (spec.copied_out (flat_seen scene.now) (scene_seen scene.now) (zip formals.now (map lvalue_of outs.now))) (process_seen process.old) (stack_seen process.old.stack)) }
+    ensures gives { IfOk result (λ a. Some (acted_seen process.new a) ≡ spec.ran at (spec.copied_out (flat_seen scene.now) (scene_seen scene.now) (zip formals.now (map lvalue_of outs.now))) (process_seen process.old) (stack_seen process.old.stack)) }
+    ensures failed { IfErr result (λ t. Fails t (IsSound (flat_seen scene.now) × FitsScene (flat_seen scene.now) (scene_seen scene.now) × All (λ x. IsDeclared (flat_seen scene.now) x.0 × FitsOutput (flat_seen scene.now) x.1) (zip formals.now (map lvalue_of outs.now)))) }
 {
-    let writes = copied_out(alloc, scene, formals, outs, budget)?;
-    ran(at, writes, process, budget)
+    let writes = copied_out(alloc, scene, formals, outs)?;
+    ran(at, writes, process)
 }

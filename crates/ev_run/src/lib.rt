@@ -1,5 +1,6 @@
-//! A plain simulator whose answers are the definitions, calls of functions too: slow, and a tool for tests. It may give
-//! up in place of an answer: without memory, at a design that isn't sound, and where its budget is used up.
+//! A plain simulator whose answers are the definitions, calls of functions too: slow, and a tool for tests. In a sound
+//! design, with what fits it, each call has its answer but for want of memory. A run also has a budget: it ends without
+//! an answer where an edge has as many events, or its nets need as many sweeps to settle.
 #![tactic(auto)]
 
 mod acts;

@@ -1,10 +1,12 @@
 //! The events of loops.
-ghost use Rattle.std.specs.Prelude.{◌≡◌, [], ◌∷◌, IfOk, Some};
+ghost use Rattle.std.specs.Prelude.{◌≡◌, [], ◌∷◌, IfOk, IfErr, Some};
 ghost use Rattle.el_design.specs.Act as spec;
 ghost use Rattle.el_design.specs.Assign as assigns;
 ghost use Rattle.el_design.specs.Stack as stacks;
 ghost use Rattle.el_design.specs.Plain as plain;
 ghost use Rattle.el_design.specs.View.{expr_of, statement_of};
+ghost use Rattle.el_design.specs.Sound.{IsSound, IsStatement};
+ghost use Rattle.ev_run.specs.Fitting.{Fails, FitsScene, IsWellMade, FitsWork};
 ghost use Rattle.ev_run.specs.Simulated.{flat_seen, scene_seen, stack_seen, process_seen, acted_seen};
 
 use crate::acts::{holds, ran, set_variable};
@@ -27,9 +29,9 @@ pub fn start_for<'a>(
     test: &'a TExpr,
     next: &'a TExpr,
     body: &'a Stmt,
-    budget: u64,
 ) -> Result<Acted, Trouble>
-    ensures { IfOk result (λ a. Some (acted_seen process.new a) ≡ spec.act_do (flat_seen scene.now) (scene_seen scene.now) (process_seen process.old) (stack_seen process.old.stack) (plain.For at var (expr_of first.now) (expr_of test.now) (expr_of next.now) (statement_of body.now))) }
+    ensures gives { IfOk result (λ a. Some (acted_seen process.new a) ≡ spec.act_do (flat_seen scene.now) (scene_seen scene.now) (process_seen process.old) (stack_seen process.old.stack) (plain.For at var (expr_of first.now) (expr_of test.now) (expr_of next.now) (statement_of body.now))) }
+    ensures failed { IfErr result (λ t. Fails t (IsSound (flat_seen scene.now) × FitsScene (flat_seen scene.now) (scene_seen scene.now) × IsStatement (flat_seen scene.now) (plain.For at var (expr_of first.now) (expr_of test.now) (expr_of next.now) (statement_of body.now)))) }
 {
     process.stack.insert(
         0,
@@ -41,7 +43,7 @@ pub fn start_for<'a>(
             body,
         },
     )?;
-    set_variable(alloc, scene, process, at, var, first, budget)
+    set_variable(alloc, scene, process, at, var, first)
 }
 
 /// The test of a `for`, then its body and step, or nothing more.
@@ -54,11 +56,11 @@ pub fn test_for<'a>(
     test: &'a TExpr,
     next: &'a TExpr,
     body: &'a Stmt,
-    budget: u64,
 ) -> Result<Acted, Trouble>
-    ensures { IfOk result (λ a. Some (acted_seen process.new a) ≡ spec.act_top (flat_seen scene.now) (scene_seen scene.now) (process_seen process.old) (stacks.Test at var (expr_of test.now) (expr_of next.now) (statement_of body.now) ∷ stack_seen process.old.stack)) }
+    ensures gives { IfOk result (λ a. Some (acted_seen process.new a) ≡ spec.act_top (flat_seen scene.now) (scene_seen scene.now) (process_seen process.old) (stacks.Test at var (expr_of test.now) (expr_of next.now) (statement_of body.now) ∷ stack_seen process.old.stack)) }
+    ensures failed { IfErr result (λ t. Fails t (IsSound (flat_seen scene.now) × FitsScene (flat_seen scene.now) (scene_seen scene.now) × FitsWork (flat_seen scene.now) (stacks.Test at var (expr_of test.now) (expr_of next.now) (statement_of body.now)))) }
 {
-    if holds(alloc, scene, test, budget)? {
+    if holds(alloc, scene, test)? {
         process.stack.insert(
             0,
             Work::Step {
@@ -71,7 +73,7 @@ pub fn test_for<'a>(
         )?;
         process.stack.insert(0, Work::Do(body))?;
     }
-    ran(at, Vec::new(alloc), process, budget)
+    ran(at, Vec::new(alloc), process)
 }
 
 /// The step of a `for`; its test comes next.
@@ -84,9 +86,9 @@ pub fn step_for<'a>(
     test: &'a TExpr,
     next: &'a TExpr,
     body: &'a Stmt,
-    budget: u64,
 ) -> Result<Acted, Trouble>
-    ensures { IfOk result (λ a. Some (acted_seen process.new a) ≡ spec.act_top (flat_seen scene.now) (scene_seen scene.now) (process_seen process.old) (stacks.Step at var (expr_of test.now) (expr_of next.now) (statement_of body.now) ∷ stack_seen process.old.stack)) }
+    ensures gives { IfOk result (λ a. Some (acted_seen process.new a) ≡ spec.act_top (flat_seen scene.now) (scene_seen scene.now) (process_seen process.old) (stacks.Step at var (expr_of test.now) (expr_of next.now) (statement_of body.now) ∷ stack_seen process.old.stack)) }
+    ensures failed { IfErr result (λ t. Fails t (IsSound (flat_seen scene.now) × FitsScene (flat_seen scene.now) (scene_seen scene.now) × FitsWork (flat_seen scene.now) (stacks.Step at var (expr_of test.now) (expr_of next.now) (statement_of body.now)))) }
 {
     process.stack.insert(
         0,
@@ -98,7 +100,7 @@ pub fn step_for<'a>(
             body,
         },
     )?;
-    set_variable(alloc, scene, process, at, var, next, budget)
+    set_variable(alloc, scene, process, at, var, next)
 }
 
 /// The test of a `while`, then its body and the whole again, or nothing more.
@@ -110,16 +112,16 @@ pub fn test_while<'a>(
     whole: &'a Stmt,
     test: &TExpr,
     body: &'a Stmt,
-    budget: u64,
 ) -> Result<Acted, Trouble>
     requires { statement_of whole.now ≡ plain.While at (expr_of test.now) (statement_of body.now) }
-    ensures { IfOk result (λ a. Some (acted_seen process.new a) ≡ spec.act_do (flat_seen scene.now) (scene_seen scene.now) (process_seen process.old) (stack_seen process.old.stack) (plain.While at (expr_of test.now) (statement_of body.now))) }
+    ensures gives { IfOk result (λ a. Some (acted_seen process.new a) ≡ spec.act_do (flat_seen scene.now) (scene_seen scene.now) (process_seen process.old) (stack_seen process.old.stack) (plain.While at (expr_of test.now) (statement_of body.now))) }
+    ensures failed { IfErr result (λ t. Fails t (IsSound (flat_seen scene.now) × FitsScene (flat_seen scene.now) (scene_seen scene.now) × IsStatement (flat_seen scene.now) (plain.While at (expr_of test.now) (statement_of body.now)))) }
 {
-    if holds(alloc, scene, test, budget)? {
+    if holds(alloc, scene, test)? {
         process.stack.insert(0, Work::Do(whole))?;
         process.stack.insert(0, Work::Do(body))?;
     }
-    ran(at, Vec::new(alloc), process, budget)
+    ran(at, Vec::new(alloc), process)
 }
 
 /// A `repeat` that has so many turns left.
@@ -129,9 +131,9 @@ pub fn turn<'a>(
     at: Place,
     left: u128,
     body: &'a Stmt,
-    budget: u64,
 ) -> Result<Acted, Trouble>
-    ensures { IfOk result (λ a. Some (acted_seen process.new a) ≡ spec.ran at [] (process_seen process.old) (spec.turn at left (statement_of body.now) (stack_seen process.old.stack))) }
+    ensures gives { IfOk result (λ a. Some (acted_seen process.new a) ≡ spec.ran at [] (process_seen process.old) (spec.turn at left (statement_of body.now) (stack_seen process.old.stack))) }
+    ensures failed { IfErr result (λ t. t ≡ Trouble.Memory) }
 {
     if left > 0 {
         process.stack.insert(
@@ -144,14 +146,15 @@ pub fn turn<'a>(
         )?;
         process.stack.insert(0, Work::Do(body))?;
     }
-    ran(at, Vec::new(alloc), process, budget)
+    ran(at, Vec::new(alloc), process)
 }
 
 /// The count of a `repeat`.
-fn count_of(alloc: Global, scene: &Scene, count: &TExpr, budget: u64) -> Result<u128, Trouble>
-    ensures { IfOk result (λ n. n ≡ assigns.count_of (flat_seen scene.now) (scene_seen scene.now) (expr_of count.now)) }
+fn count_of(alloc: Global, scene: &Scene, count: &TExpr) -> Result<u128, Trouble>
+    ensures gives { IfOk result (λ n. n ≡ assigns.count_of (flat_seen scene.now) (scene_seen scene.now) (expr_of count.now)) }
+    ensures failed { IfErr result (λ t. Fails t (IsSound (flat_seen scene.now) × FitsScene (flat_seen scene.now) (scene_seen scene.now) × IsWellMade (flat_seen scene.now) (expr_of count.now))) }
 {
-    Ok(turn_count(value(alloc, scene, count, budget)?, count.signed))
+    Ok(turn_count(value(alloc, scene, count)?, count.signed))
 }
 
 /// The count of a `repeat`; its turns come next.
@@ -162,10 +165,10 @@ pub fn start_repeat<'a>(
     at: Place,
     count: &TExpr,
     body: &'a Stmt,
-    budget: u64,
 ) -> Result<Acted, Trouble>
-    ensures { IfOk result (λ a. Some (acted_seen process.new a) ≡ spec.act_do (flat_seen scene.now) (scene_seen scene.now) (process_seen process.old) (stack_seen process.old.stack) (plain.Repeat at (expr_of count.now) (statement_of body.now))) }
+    ensures gives { IfOk result (λ a. Some (acted_seen process.new a) ≡ spec.act_do (flat_seen scene.now) (scene_seen scene.now) (process_seen process.old) (stack_seen process.old.stack) (plain.Repeat at (expr_of count.now) (statement_of body.now))) }
+    ensures failed { IfErr result (λ t. Fails t (IsSound (flat_seen scene.now) × FitsScene (flat_seen scene.now) (scene_seen scene.now) × IsStatement (flat_seen scene.now) (plain.Repeat at (expr_of count.now) (statement_of body.now)))) }
 {
-    let left = count_of(alloc, scene, count, budget)?;
-    turn(alloc, process, at, left, body, budget)
+    let left = count_of(alloc, scene, count)?;
+    turn(alloc, process, at, left, body)
 }

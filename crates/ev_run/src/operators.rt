@@ -1,8 +1,12 @@
 //! Operators on values, each with a test that it may be used.
-ghost use Rattle.std.specs.Prelude.{◌≡◌, ◌-◌, ◌≤◌, fold, IfOk, take};
+ghost use Rattle.std.specs.Prelude.{◌≡◌, ◌-◌, ◌≤◌, fold, IfOk, take, IfErr, ◌≢◌, ◌+◌, ◌*◌, ◌^◌, [], map, sum, pos, neg_ℤ, ◌≤ℤ◌};
 ghost use Rattle.xt_bits.specs.Word.{word, truth, integer_of};
 ghost use Rattle.xt_bits.specs.Operators.{concat_of, extend_of, select_of};
 ghost use Rattle.el_design.specs.Value.{unary_value, binary_value, joined, copies};
+ghost use Rattle.xt_base.specs.declared.TheConstants.{MAX_WIDTH};
+ghost use Rattle.el_design.specs.Sound.{IsWidth};
+ghost use Rattle.ev_run.specs.declared.operators.Trouble.TheVariants as troubles;
+ghost use Rattle.ev_run.specs.Fitting.{Fails, FitOperands};
 
 use el_design::{BinOp, UnOp};
 use std::alloc::{AllocError, AllocFailed};
@@ -15,19 +19,23 @@ use xt_bits::Bits;
 pub enum Trouble {
     #[error("out of memory")]
     Memory,
-    #[error("the design isn't sound")]
+    #[error("the design isn't sound, or something doesn't fit it")]
     Unsound,
     #[error("the budget is used up")]
     Budget,
 }
 
 impl From<AllocError> for Trouble {
+    ghost from_gives = { λ _ t. t ≡ troubles.Memory };
+
     fn from(_error: AllocError) -> Trouble {
         Trouble::Memory
     }
 }
 
 impl<T: Drop> From<AllocFailed<T>> for Trouble {
+    ghost from_gives = { λ _ t. t ≡ troubles.Memory };
+
     fn from(_error: AllocFailed<T>) -> Trouble {
         Trouble::Memory
     }
@@ -35,7 +43,8 @@ impl<T: Drop> From<AllocFailed<T>> for Trouble {
 
 /// A number of a width.
 pub fn number(width: u32, value: Item) -> Result<Bits, Trouble>
-    ensures { IfOk result (λ x. x ≡ word width value) }
+    ensures gives { IfOk result (λ x. x ≡ word width value) }
+    ensures failed { IfErr result (λ t. Fails t (IsWidth width)) }
 {
     if 1 <= width && width <= MAX_WIDTH {
         Ok(Bits::new(width, value))
@@ -46,7 +55,8 @@ pub fn number(width: u32, value: Item) -> Result<Bits, Trouble>
 
 /// A value brought to a width.
 pub fn extended(x: Bits, width: u32, signed: bool) -> Result<Bits, Trouble>
-    ensures { IfOk result (λ y. y ≡ extend_of x width signed) }
+    ensures gives { IfOk result (λ y. y ≡ extend_of x width signed) }
+    ensures failed { IfErr result (λ t. Fails t (IsWidth width)) }
 {
     if 1 <= width && width <= MAX_WIDTH {
         Ok(x.extend(width, signed))
@@ -57,7 +67,8 @@ pub fn extended(x: Bits, width: u32, signed: bool) -> Result<Bits, Trouble>
 
 /// So many bits of a value.
 pub fn selected(x: Bits, low: i128, width: u32) -> Result<Bits, Trouble>
-    ensures { IfOk result (λ y. y ≡ select_of x low width) }
+    ensures gives { IfOk result (λ y. y ≡ select_of x low width) }
+    ensures failed { IfErr result (λ t. Fails t (IsWidth width)) }
 {
     if 1 <= width && width <= MAX_WIDTH {
         Ok(x.select(low, width))
@@ -68,7 +79,8 @@ pub fn selected(x: Bits, low: i128, width: u32) -> Result<Bits, Trouble>
 
 /// The whole number that a value stands for.
 pub fn integer(x: Bits, signed: bool) -> i128
-    ensures { result ≡ integer_of x signed }
+    ensures gives { result ≡ integer_of x signed }
+    ensures low { neg_ℤ (pos (2 ^ 64)) ≤ℤ result }
 {
     let value = x.value();
     if signed && value >= 1 << (x.width() - 1) {
@@ -103,7 +115,8 @@ pub fn unary(op: UnOp, a: Bits) -> Bits
 
 /// An operator between values, where their widths fit it.
 pub fn binary(op: BinOp, both: bool, signed: bool, a: Bits, b: Bits) -> Result<Bits, Trouble>
-    ensures { IfOk result (λ x. x ≡ binary_value op both signed a b) }
+    ensures gives { IfOk result (λ x. x ≡ binary_value op both signed a b) }
+    ensures failed { IfErr result (λ t. Fails t (FitOperands op a b)) }
 {
     match op {
         BinOp::Shl => Ok(a.shl(b.value())),
@@ -150,7 +163,8 @@ pub fn binary(op: BinOp, both: bool, signed: bool, a: Bits, b: Bits) -> Result<B
 }
 
 fn concatenated(high: Bits, low: Bits) -> Result<Bits, Trouble>
-    ensures { IfOk result (λ x. x ≡ concat_of high low) }
+    ensures gives { IfOk result (λ x. x ≡ concat_of high low) }
+    ensures failed { IfErr result (λ t. Fails t (high.width + low.width ≤ MAX_WIDTH)) }
 {
     if high.width() + low.width() <= MAX_WIDTH {
         Ok(high.concat(low))
@@ -161,7 +175,8 @@ fn concatenated(high: Bits, low: Bits) -> Result<Bits, Trouble>
 
 /// A concatenation.
 pub fn concatenation(parts: &[Bits]) -> Result<Bits, Trouble>
-    ensures { IfOk result (λ x. x ≡ joined parts.now) }
+    ensures gives { IfOk result (λ x. x ≡ joined parts.now) }
+    ensures failed { IfErr result (λ t. Fails t ((parts.now ≢ []) × (sum (map (λ x. x.width) parts.now) ≤ MAX_WIDTH))) }
 {
     match parts {
         [] => Err(Trouble::Unsound),
@@ -177,7 +192,8 @@ pub fn concatenation(parts: &[Bits]) -> Result<Bits, Trouble>
 
 /// So many copies of a value.
 pub fn repetition(times: u32, x: Bits) -> Result<Bits, Trouble>
-    ensures { IfOk result (λ y. y ≡ copies (times - 1) x) }
+    ensures gives { IfOk result (λ y. y ≡ copies (times - 1) x) }
+    ensures failed { IfErr result (λ t. Fails t ((1 ≤ times) × (times * x.width ≤ MAX_WIDTH))) }
 {
     if times == 0 {
         return Err(Trouble::Unsound);

@@ -1,5 +1,5 @@
 //! The event queue: the state of a run, which events may be taken in it, and what an event does to it.
-ghost use Rattle.std.specs.Prelude.{◌≡◌, ◌∷◌, ◌++◌, ◌&&◌, List, [], not, map, if◌then◌else◌, IfOk};
+ghost use Rattle.std.specs.Prelude.{◌≡◌, ◌∷◌, ◌++◌, ◌&&◌, ◌+◌, ◌≤◌, length, drop, List, [], not, map, if◌then◌else◌, IfOk, IfErr, slice_get, Some};
 ghost use Rattle.std.specs.List.{list_any};
 ghost use Rattle.xt_bits.specs.Stimulus as stimuli;
 ghost use Rattle.el_design.specs.Queue as queue;
@@ -7,6 +7,8 @@ ghost use Rattle.el_design.specs.Stack as stacks;
 ghost use Rattle.el_design.specs.Laws.{places_from, has_updates, is_empty};
 ghost use Rattle.el_design.specs.View.{flat_of, net_of, statement_of};
 ghost use Rattle.ev_run.specs.Simulated.{scene_seen, work_seen, reply_seen, process_seen, config_seen, event_seen, events_seen};
+ghost use Rattle.el_design.specs.Sound.{IsSound};
+ghost use Rattle.ev_run.specs.Fitting.{Fails, FitsConfig};
 
 use crate::nets::net_aim;
 use crate::operators::Trouble;
@@ -56,13 +58,13 @@ pub fn has_value(
     config: &Config,
     at: usize,
     net: &Net,
-    budget: u64,
 ) -> Result<bool, Trouble>
-    ensures { IfOk result (λ b. b ≡ queue.has_value (flat_of design.now) (config_seen config.now) at (net_of net.now)) }
+    ensures gives { IfOk result (λ b. b ≡ queue.has_value (flat_of design.now) (config_seen config.now) at (net_of net.now)) }
+    ensures failed { IfErr result (λ t. Fails t (IsSound (flat_of design.now) × FitsConfig (flat_of design.now) (config_seen config.now) × (slice_get (flat_of design.now).nets at ≡ Some (net_of net.now)))) }
 {
     let scene = scene(design, config);
     let now = word_at(scene.nets, at as u128, net.width)?;
-    let aim = net_aim(alloc, &scene, config.row, at, net, budget)?;
+    let aim = net_aim(alloc, &scene, config.row, at, net)?;
     Ok(now.value() == aim.value())
 }
 
@@ -173,15 +175,14 @@ pub fn any_stuck(procs: &[Process]) -> bool
 
 /// The processes that have an event, where the first has this number.
 fn runs(alloc: Global, procs: &[Process], at: usize) -> Result<Vec<Event>, Trouble>
-    ensures { IfOk result (λ v. events_seen v.items ≡ map queue.Run (places_from at (λ i p. queue.can_run p) (map process_seen procs.now))) }
+    requires { at + length procs.now ≤ usize.MAX }
+    ensures gives { IfOk result (λ v. events_seen v.items ≡ map queue.Run (places_from at (λ i p. queue.can_run p) (map process_seen procs.now))) }
+    ensures failed { IfErr result (λ t. t ≡ Trouble.Memory) }
 {
     match procs {
         [] => Ok(Vec::new(alloc)),
         [first, rest @ ..] => {
-            let Some(next) = at.checked_add(1) else {
-                return Err(Trouble::Unsound);
-            };
-            let mut all = runs(alloc, rest, next)?;
+            let mut all = runs(alloc, rest, at + 1)?;
             if can_run(first) {
                 all.insert(0, Event::Run(at))?;
                 Ok(all)
@@ -199,18 +200,16 @@ fn follows(
     config: &Config,
     nets: &[Net],
     at: usize,
-    budget: u64,
 ) -> Result<Vec<Event>, Trouble>
-    ensures { IfOk result (λ v. events_seen v.items ≡ map queue.Follow (places_from at (λ n net. not (queue.has_value (flat_of design.now) (config_seen config.now) n net)) (map net_of nets.now))) }
+    requires { at + length nets.now ≤ usize.MAX }
+    ensures gives { IfOk result (λ v. events_seen v.items ≡ map queue.Follow (places_from at (λ n net. not (queue.has_value (flat_of design.now) (config_seen config.now) n net)) (map net_of nets.now))) }
+    ensures failed { IfErr result (λ t. Fails t (IsSound (flat_of design.now) × FitsConfig (flat_of design.now) (config_seen config.now) × (map net_of nets.now ≡ drop at (flat_of design.now).nets))) }
 {
     match nets {
         [] => Ok(Vec::new(alloc)),
         [first, rest @ ..] => {
-            let Some(next) = at.checked_add(1) else {
-                return Err(Trouble::Unsound);
-            };
-            let mut all = follows(alloc, design, config, rest, next, budget)?;
-            if has_value(alloc, design, config, at, first, budget)? {
+            let mut all = follows(alloc, design, config, rest, at + 1)?;
+            if has_value(alloc, design, config, at, first)? {
                 Ok(all)
             } else {
                 all.insert(0, Event::Follow(at))?;
@@ -232,15 +231,14 @@ pub fn has_update(process: &Process) -> bool
 
 /// The processes that have an update, where the first has this number.
 fn updates(alloc: Global, procs: &[Process], at: usize) -> Result<Vec<Event>, Trouble>
-    ensures { IfOk result (λ v. events_seen v.items ≡ map queue.Update (places_from at (λ i p. has_updates p) (map process_seen procs.now))) }
+    requires { at + length procs.now ≤ usize.MAX }
+    ensures gives { IfOk result (λ v. events_seen v.items ≡ map queue.Update (places_from at (λ i p. has_updates p) (map process_seen procs.now))) }
+    ensures failed { IfErr result (λ t. t ≡ Trouble.Memory) }
 {
     match procs {
         [] => Ok(Vec::new(alloc)),
         [first, rest @ ..] => {
-            let Some(next) = at.checked_add(1) else {
-                return Err(Trouble::Unsound);
-            };
-            let mut all = updates(alloc, rest, next)?;
+            let mut all = updates(alloc, rest, at + 1)?;
             if has_update(first) {
                 all.insert(0, Event::Update(at))?;
                 Ok(all)
@@ -270,7 +268,8 @@ fn are_all(a: bool, b: bool, c: bool) -> bool
 
 /// The updates, where they may be taken.
 fn updates_if(alloc: Global, quiet: bool, procs: &[Process]) -> Result<Vec<Event>, Trouble>
-    ensures { IfOk result (λ v. events_seen v.items ≡ (if quiet then map queue.Update (places_from 0 (λ i p. has_updates p) (map process_seen procs.now)) else [])) }
+    ensures gives { IfOk result (λ v. events_seen v.items ≡ (if quiet then map queue.Update (places_from 0 (λ i p. has_updates p) (map process_seen procs.now)) else [])) }
+    ensures failed { IfErr result (λ t. t ≡ Trouble.Memory) }
 {
     if quiet {
         updates(alloc, procs, 0)
@@ -282,7 +281,8 @@ fn updates_if(alloc: Global, quiet: bool, procs: &[Process]) -> Result<Vec<Event
 /// The events of both lists.
 #[tactic(auto, using(crate::proofs::Queueing::events_append))]
 fn joined(first: Vec<Event>, more: Vec<Event>) -> Result<Vec<Event>, Trouble>
-    ensures { IfOk result (λ v. events_seen v.items ≡ events_seen first.items ++ events_seen more.items) }
+    ensures gives { IfOk result (λ v. events_seen v.items ≡ events_seen first.items ++ events_seen more.items) }
+    ensures failed { IfErr result (λ t. t ≡ Trouble.Memory) }
 {
     let mut all = first;
     let mut more = more;
@@ -292,17 +292,13 @@ fn joined(first: Vec<Event>, more: Vec<Event>) -> Result<Vec<Event>, Trouble>
 
 /// The events that may be taken, in the order of the pick: of processes, then of nets, and, where there is none of
 /// these and no process is at a call without a reply, the updates.
-pub fn ready(
-    alloc: Global,
-    design: &Design,
-    config: &Config,
-    budget: u64,
-) -> Result<Vec<Event>, Trouble>
-    ensures { IfOk result (λ v. events_seen v.items ≡ queue.ready (flat_of design.now) (config_seen config.now)) }
+pub fn ready(alloc: Global, design: &Design, config: &Config) -> Result<Vec<Event>, Trouble>
+    ensures gives { IfOk result (λ v. events_seen v.items ≡ queue.ready (flat_of design.now) (config_seen config.now)) }
+    ensures failed { IfErr result (λ t. Fails t (IsSound (flat_of design.now) × FitsConfig (flat_of design.now) (config_seen config.now))) }
 {
     let procs = config.procs.as_slice();
     let runs = runs(alloc, procs, 0)?;
-    let follows = follows(alloc, design, config, design.nets.as_slice(), 0, budget)?;
+    let follows = follows(alloc, design, config, design.nets.as_slice(), 0)?;
     let quiet = are_all(
         none(runs.as_slice()),
         none(follows.as_slice()),
@@ -319,18 +315,16 @@ fn are_valued(
     config: &Config,
     nets: &[Net],
     at: usize,
-    budget: u64,
 ) -> Result<bool, Trouble>
-    ensures { IfOk result (λ b. b ≡ queue.are_valued (flat_of design.now) (config_seen config.now) at (map net_of nets.now)) }
+    requires { at + length nets.now ≤ usize.MAX }
+    ensures gives { IfOk result (λ b. b ≡ queue.are_valued (flat_of design.now) (config_seen config.now) at (map net_of nets.now)) }
+    ensures failed { IfErr result (λ t. Fails t (IsSound (flat_of design.now) × FitsConfig (flat_of design.now) (config_seen config.now) × (map net_of nets.now ≡ drop at (flat_of design.now).nets))) }
 {
     match nets {
         [] => Ok(true),
         [first, rest @ ..] => {
-            let Some(next) = at.checked_add(1) else {
-                return Err(Trouble::Unsound);
-            };
-            if has_value(alloc, design, config, at, first, budget)? {
-                are_valued(alloc, design, config, rest, next, budget)
+            if has_value(alloc, design, config, at, first)? {
+                are_valued(alloc, design, config, rest, at + 1)
             } else {
                 Ok(false)
             }
@@ -339,15 +333,11 @@ fn are_valued(
 }
 
 /// Updates may be taken.
-pub fn is_quiet(
-    alloc: Global,
-    design: &Design,
-    config: &Config,
-    budget: u64,
-) -> Result<bool, Trouble>
-    ensures { IfOk result (λ b. b ≡ queue.is_quiet (flat_of design.now) (config_seen config.now)) }
+pub fn is_quiet(alloc: Global, design: &Design, config: &Config) -> Result<bool, Trouble>
+    ensures gives { IfOk result (λ b. b ≡ queue.is_quiet (flat_of design.now) (config_seen config.now)) }
+    ensures failed { IfErr result (λ t. Fails t (IsSound (flat_of design.now) × FitsConfig (flat_of design.now) (config_seen config.now))) }
 {
     let procs = config.procs.as_slice();
-    let valued = are_valued(alloc, design, config, design.nets.as_slice(), 0, budget)?;
+    let valued = are_valued(alloc, design, config, design.nets.as_slice(), 0)?;
     Ok(!any_runs(procs) && valued && !any_stuck(procs))
 }

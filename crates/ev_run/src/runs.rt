@@ -1,9 +1,13 @@
 //! Runs under a pick.
-ghost use Rattle.std.specs.Prelude.{◌≡◌, [], ◌∷◌, ℕ, IfOk};
+ghost use Rattle.std.specs.Prelude.{◌≡◌, List, [], ◌∷◌, ℕ, IfOk, IfErr};
+ghost use Rattle.xt_bits.specs.Stimulus.{Stimulus};
 ghost use Rattle.el_design.specs.Queue as queue;
 ghost use Rattle.el_design.specs.Run as spec;
+ghost use Rattle.el_design.specs.Laws.{EdgeBegins};
 ghost use Rattle.el_design.specs.View.{flat_of};
 ghost use Rattle.ev_run.specs.Simulated.{config_seen, rows_seen, stimulus_seen, events_seen, plays_seen, seen_seen, trace_seen};
+ghost use Rattle.el_design.specs.Sound.{IsSound};
+ghost use Rattle.ev_run.specs.Fitting.{GivesUp, OverBudget};
 
 use crate::edges::play;
 use crate::operators::Trouble;
@@ -27,6 +31,7 @@ pub struct Played {
 fn last(alloc: Global, seen: Seen) -> Result<Played, Trouble>
     ensures plays { IfOk result (λ r. plays_seen r.plays.items ≡ []) }
     ensures trace { IfOk result (λ r. trace_seen r.trace.items ≡ seen_seen seen ∷ []) }
+    ensures failed { IfErr result (λ t. t ≡ Trouble.Memory) }
 {
     let mut trace = Vec::new(alloc);
     trace.push(seen)?;
@@ -40,6 +45,7 @@ fn last(alloc: Global, seen: Seen) -> Result<Played, Trouble>
 fn before(seen: Seen, events: Vec<Event>, later: Played) -> Result<Played, Trouble>
     ensures plays { IfOk result (λ r. plays_seen r.plays.items ≡ events_seen events.items ∷ plays_seen later.plays.items) }
     ensures trace { IfOk result (λ r. trace_seen r.trace.items ≡ seen_seen seen ∷ trace_seen later.trace.items) }
+    ensures failed { IfErr result (λ t. t ≡ Trouble.Memory) }
 {
     let Played {
         mut plays,
@@ -60,7 +66,8 @@ fn go_on<'a>(
     budget: u64,
 ) -> Result<Played, Trouble>
     requires { queue.ready (flat_of design.now) (config_seen ended) ≡ [] }
-    ensures { IfOk result (λ r. (first k : ℕ) → pick ≡ spec.pick_after first k → spec.Goes (flat_of design.now) (spec.Picked first) k (config_seen ended.entry) (rows_seen rows.now) (plays_seen r.plays.items) (trace_seen r.trace.items)) }
+    ensures gives { IfOk result (λ r. (first k : ℕ) → pick ≡ spec.pick_after first k → spec.Goes (flat_of design.now) (spec.Picked first) k (config_seen ended.entry) (rows_seen rows.now) (plays_seen r.plays.items) (trace_seen r.trace.items)) }
+    ensures failed { (x : Stimulus) (begin : queue.Config) (es : List queue.Event) (first k : ℕ) → EdgeBegins (flat_of design.now) x (rows_seen rows.now) begin → spec.Takes (flat_of design.now) spec.Any 0 begin es (config_seen ended.entry) → pick ≡ spec.pick_after first k → IfErr result (λ t. GivesUp t (IsSound (flat_of design.now) × spec.IsStimulus (flat_of design.now) x) (OverBudget (flat_of design.now) x first budget)) }
 {
     if any_stuck(ended.procs.as_slice()) {
         return last(alloc, starved_seen(alloc, &ended)?);
@@ -82,9 +89,9 @@ fn go_on<'a>(
 }
 
 /// The run of a design under rows of values for its input pins, one for each edge, replies and a pick, and what is
-/// seen of it. Each edge has at most `budget` events, and
-/// nothing in it goes deeper or on longer than that; else the answer is [`Trouble::Budget`]. A design that isn't sound,
-/// or a stimulus that doesn't fit it, may have the answer [`Trouble::Unsound`].
+/// seen of it. Where in an edge as many events as `budget` says are taken, or the nets aren't settled after as many
+/// sweeps, the answer is [`Trouble::Budget`] instead. A design that isn't sound, or a stimulus that doesn't fit it, may
+/// have the answer [`Trouble::Unsound`].
 pub fn run(
     alloc: Global,
     design: &Design,
@@ -93,7 +100,8 @@ pub fn run(
     pick: u64,
     budget: u64,
 ) -> Result<Played, Trouble>
-    ensures { IfOk result (λ r. spec.RunsBy (flat_of design.now) (spec.Picked pick) (stimulus_seen rows.now replies.now) (plays_seen r.plays.items) (trace_seen r.trace.items)) }
+    ensures gives { IfOk result (λ r. spec.RunsBy (flat_of design.now) (spec.Picked pick) (stimulus_seen rows.now replies.now) (plays_seen r.plays.items) (trace_seen r.trace.items)) }
+    ensures failed { IfErr result (λ t. GivesUp t (IsSound (flat_of design.now) × spec.IsStimulus (flat_of design.now) (stimulus_seen rows.now replies.now)) (OverBudget (flat_of design.now) (stimulus_seen rows.now replies.now) pick budget)) }
 {
     match rows {
         [] => Err(Trouble::Unsound),
@@ -110,6 +118,7 @@ pub fn run(
 fn begun(events: Vec<Event>, later: Played) -> Result<Played, Trouble>
     ensures plays { IfOk result (λ r. plays_seen r.plays.items ≡ events_seen events.items ∷ plays_seen later.plays.items) }
     ensures trace { IfOk result (λ r. r.trace.items ≡ later.trace.items) }
+    ensures failed { IfErr result (λ t. t ≡ Trouble.Memory) }
 {
     let Played { mut plays, trace } = later;
     plays.insert(0, Items::from_vec(events))?;

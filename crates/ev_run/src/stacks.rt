@@ -1,7 +1,8 @@
 //! A process as a stack of work, and its steps that are no events.
-ghost use Rattle.std.specs.Prelude.{◌≡◌, ◌∷◌, List, map, OnOk, IfOk, Bool, true, false, Some, None, option_map, if◌then◌else◌};
+ghost use Rattle.std.specs.Prelude.{◌≡◌, ◌∷◌, List, map, OnOk, IfOk, Bool, true, false, Some, None, option_map, if◌then◌else◌, IfErr};
 ghost use Rattle.el_design.specs.Stack as spec;
 ghost use Rattle.el_design.specs.View.{proc_of, statement_of};
+ghost use Rattle.ev_run.specs.Endless as endless;
 ghost use Rattle.ev_run.specs.Simulated.{work_seen, stack_seen};
 
 use crate::operators::Trouble;
@@ -64,6 +65,7 @@ pub enum Work<'a> {
 pub fn quiet_step(stack: &mut Vec<Work>) -> Result<bool, Trouble>
     ensures moved { IfOk result (λ moved. moved ≡ true → spec.quiet_step (stack_seen stack.old) ≡ Some (stack_seen stack.new)) }
     ensures still { IfOk result (λ moved. moved ≡ false → (spec.quiet_step (stack_seen stack.old) ≡ None) × (stack_seen stack.new ≡ stack_seen stack.old)) }
+    ensures failed { IfErr result (λ t. t ≡ Trouble.Memory) }
 {
     if stack.is_empty() {
         return Ok(false);
@@ -115,17 +117,61 @@ pub fn quiet_step(stack: &mut Vec<Work>) -> Result<bool, Trouble>
     Ok(true)
 }
 
-/// The still stack to which steps that are no events lead.
-#[tactic(auto, using(crate::proofs::Waking::still_settled, crate::proofs::Waking::settle_step))]
-pub fn settle(stack: &mut Vec<Work>, budget: u64) -> Result<(), Trouble>
-    ensures { OnOk result (stack_seen stack.new ≡ spec.settle (stack_seen stack.old)) }
+/// The statement begins again at its end.
+fn is_forever(statement: &Stmt) -> bool
+    ensures { result ≡ endless.is_endless (spec.Do (statement_of statement.now)) }
 {
-    for _step in 0..budget {
+    match statement {
+        Stmt::Forever { .. } => true,
+        Stmt::Null => false,
+        Stmt::Block { .. } => false,
+        Stmt::Assign { .. } => false,
+        Stmt::If { .. } => false,
+        Stmt::Case { .. } => false,
+        Stmt::For { .. } => false,
+        Stmt::While { .. } => false,
+        Stmt::Repeat { .. } => false,
+        Stmt::Wait { .. } => false,
+        Stmt::Enable { .. } => false,
+        Stmt::Disable { .. } => false,
+        Stmt::Host { .. } => false,
+    }
+}
+
+/// The work begins again at its end.
+#[tactic(auto, using(crate::proofs::Waking::rest_ends))]
+fn is_endless(top: &Work) -> bool
+    ensures { result ≡ endless.is_endless (work_seen top.now) }
+{
+    match top {
+        Work::Do(statement) => is_forever(statement),
+        Work::Again { .. } => true,
+        Work::Rest(_) => false,
+        Work::End(_) => false,
+        Work::Return { .. } => false,
+        Work::Test { .. } => false,
+        Work::Step { .. } => false,
+        Work::Turns { .. } => false,
+        Work::Await { .. } => false,
+    }
+}
+
+/// The still stack to which steps that are no events lead. Where such steps come back to a `forever`, it has a body of
+/// nothing, and stays.
+pub fn settle(stack: &mut Vec<Work>) -> Result<(), Trouble>
+    ensures gives { OnOk result (stack_seen stack.new ≡ spec.settle (stack_seen stack.old)) }
+    ensures failed { IfErr result (λ t. t ≡ Trouble.Memory) }
+{
+    let mut kept = 0;
+    while kept < stack.len() {
+        if is_endless(&stack[0]) {
+            kept = stack.len();
+        }
         if !quiet_step(stack)? {
             return Ok(());
         }
     }
-    Err(Trouble::Budget)
+    Ok(())
 }
 
 /// What lies below the nearest end with the mark.
@@ -162,12 +208,9 @@ fn ends(top: &Work, mark: u32) -> bool
 }
 
 /// The stack of a process at its beginning.
-pub fn start_stack<'a>(
-    alloc: Global,
-    process: &'a Proc,
-    budget: u64,
-) -> Result<Vec<Work<'a>>, Trouble>
-    ensures { IfOk result (λ v. stack_seen v ≡ spec.start_stack (proc_of process.now)) }
+pub fn start_stack<'a>(alloc: Global, process: &'a Proc) -> Result<Vec<Work<'a>>, Trouble>
+    ensures gives { IfOk result (λ v. stack_seen v ≡ spec.start_stack (proc_of process.now)) }
+    ensures failed { IfErr result (λ t. t ≡ Trouble.Memory) }
 {
     let mut stack = Vec::new(alloc);
     if process.always {
@@ -178,7 +221,7 @@ pub fn start_stack<'a>(
     } else {
         stack.push(Work::Do(&process.body))?;
     }
-    settle(&mut stack, budget)?;
+    settle(&mut stack)?;
     Ok(stack)
 }
 
@@ -233,12 +276,13 @@ pub fn is_waiting(stack: &[Work]) -> bool
 
 /// Past the wait, where one is on top.
 #[tactic(auto, using(crate::proofs::Waking::wakes, crate::proofs::Waking::sleeps))]
-pub fn wake(stack: &mut Vec<Work>, budget: u64) -> Result<(), Trouble>
-    ensures { OnOk result (stack_seen stack.new ≡ spec.wake (stack_seen stack.old)) }
+pub fn wake(stack: &mut Vec<Work>) -> Result<(), Trouble>
+    ensures gives { OnOk result (stack_seen stack.new ≡ spec.wake (stack_seen stack.old)) }
+    ensures failed { IfErr result (λ t. t ≡ Trouble.Memory) }
 {
     if is_waiting(stack.as_slice()) {
         stack.remove(0);
-        settle(stack, budget)?;
+        settle(stack)?;
     }
     Ok(())
 }

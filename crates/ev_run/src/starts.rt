@@ -1,11 +1,14 @@
 //! How the edges of a run begin.
-ghost use Rattle.std.specs.Prelude.{◌≡◌, List, Vec, max, map, zip, replicate, IfOk};
+ghost use Rattle.std.specs.Prelude.{◌≡◌, All, List, Vec, max, map, zip, replicate, IfOk, IfErr, ◌⊎◌, ◌≤◌, ◌^◌, suc};
 ghost use Rattle.std.specs.Global.{Global};
 ghost use Rattle.xt_bits.specs.Word.{Word};
 ghost use Rattle.el_design.specs.Run as spec;
-ghost use Rattle.el_design.specs.Store.{start_word};
+ghost use Rattle.el_design.specs.Store.{start_word, start_store};
 ghost use Rattle.el_design.specs.View.{flat_of, proc_of};
 ghost use Rattle.ev_run.specs.Simulated.{process_seen, reply_seen, config_seen, stimulus_seen};
+ghost use Rattle.el_design.specs.Sound.{IsSound, IsVariable, IsWidth};
+ghost use Rattle.el_design.specs.Run.{IsRow};
+ghost use Rattle.ev_run.specs.Fitting.{Fails, GivesUp, FitsConfig, IsUnsettled};
 
 use crate::nets::settled_nets;
 use crate::operators::{Trouble, number};
@@ -26,7 +29,8 @@ pub fn word_count(var: &Var) -> u32
 
 /// So many words with one value.
 pub fn filled(alloc: Global, words: u32, x: Bits) -> Result<Items<Bits>, Trouble>
-    ensures { IfOk result (λ all. all ≡ replicate words x) }
+    ensures gives { IfOk result (λ all. all ≡ replicate words x) }
+    ensures failed { IfErr result (λ t. t ≡ Trouble.Memory) }
 {
     let mut all = Vec::new(alloc);
     for _word in 0..words {
@@ -37,7 +41,8 @@ pub fn filled(alloc: Global, words: u32, x: Bits) -> Result<Items<Bits>, Trouble
 
 /// What each word of a variable holds at the start.
 fn start_word(var: &Var) -> Result<Bits, Trouble>
-    ensures { IfOk result (λ x. x ≡ start_word var.now) }
+    ensures gives { IfOk result (λ x. x ≡ start_word var.now) }
+    ensures failed { IfErr result (λ t. Fails t (IsWidth var.now.width)) }
 {
     if var.words == 0 {
         Ok(var.start)
@@ -48,7 +53,8 @@ fn start_word(var: &Var) -> Result<Bits, Trouble>
 
 /// Each variable at its start value.
 fn start_words(alloc: Global, vars: &[Var]) -> Result<Vec<Items<Bits>>, Trouble>
-    ensures { IfOk result (λ v. v.items ≡ map (λ x. replicate (max 1 x.words) (start_word x)) vars.now) }
+    ensures gives { IfOk result (λ v. v.items ≡ map (λ x. replicate (max 1 x.words) (start_word x)) vars.now) }
+    ensures failed { IfErr result (λ t. Fails t (All IsVariable vars.now)) }
 {
     match vars {
         [] => Ok(Vec::new(alloc)),
@@ -66,12 +72,12 @@ fn started<'a>(
     alloc: Global,
     process: &'a Proc,
     replies: &'a [Reply],
-    budget: u64,
 ) -> Result<Process<'a>, Trouble>
-    ensures { IfOk result (λ p. process_seen p ≡ spec.started (proc_of process.now, map reply_seen replies.now)) }
+    ensures gives { IfOk result (λ p. process_seen p ≡ spec.started (proc_of process.now, map reply_seen replies.now)) }
+    ensures failed { IfErr result (λ t. t ≡ Trouble.Memory) }
 {
     Ok(Process {
-        stack: start_stack(alloc, process, budget)?,
+        stack: start_stack(alloc, process)?,
         updates: Vec::new(alloc),
         replies,
         calls: Vec::new(alloc),
@@ -84,17 +90,17 @@ fn all_started<'a>(
     alloc: Global,
     procs: &'a [Proc],
     replies: &'a [Vec<Reply>],
-    budget: u64,
 ) -> Result<Vec<Process<'a>>, Trouble>
-    ensures { IfOk result (λ v. map process_seen v.items ≡ map spec.started (zip (map proc_of procs.now) (map (λ rs. map reply_seen rs.items) replies.now))) }
+    ensures gives { IfOk result (λ v. map process_seen v.items ≡ map spec.started (zip (map proc_of procs.now) (map (λ rs. map reply_seen rs.items) replies.now))) }
+    ensures failed { IfErr result (λ t. t ≡ Trouble.Memory) }
 {
     match procs {
         [] => Ok(Vec::new(alloc)),
         [process, procs @ ..] => match replies {
             [] => Ok(Vec::new(alloc)),
             [first, replies @ ..] => {
-                let process = started(alloc, process, first.as_slice(), budget)?;
-                let mut all = all_started(alloc, procs, replies, budget)?;
+                let process = started(alloc, process, first.as_slice())?;
+                let mut all = all_started(alloc, procs, replies)?;
                 all.insert(0, process)?;
                 Ok(all)
             }
@@ -110,11 +116,12 @@ pub fn start<'a>(
     row: &'a [Bits],
     budget: u64,
 ) -> Result<Config<'a>, Trouble>
-    ensures { IfOk result (λ c. (rows : List (Vec Word Global)) → spec.Starts (flat_of design.now) (stimulus_seen rows replies.now) row.now (config_seen c)) }
+    ensures gives { IfOk result (λ c. (rows : List (Vec Word Global)) → spec.Starts (flat_of design.now) (stimulus_seen rows replies.now) row.now (config_seen c)) }
+    ensures failed { IfErr result (λ t. GivesUp t (IsSound (flat_of design.now) × IsRow (flat_of design.now) row.now) (IsUnsettled (flat_of design.now) row.now (start_store (flat_of design.now)) budget)) }
 {
     let store = Items::from_vec(start_words(alloc, design.vars.as_slice())?);
     let lists = replies.lists.as_slice();
-    let procs = all_started(alloc, design.procs.as_slice(), lists, budget)?;
+    let procs = all_started(alloc, design.procs.as_slice(), lists)?;
     let nets = settled_nets(alloc, design, row, store.as_slice(), budget)?;
     Ok(Config {
         edge: 0,
@@ -126,30 +133,28 @@ pub fn start<'a>(
 }
 
 /// A process at the next edge.
-fn woken<'a>(alloc: Global, process: Process<'a>, budget: u64) -> Result<Process<'a>, Trouble>
-    ensures { IfOk result (λ p. process_seen p ≡ spec.woken (process_seen process.entry)) }
+fn woken<'a>(alloc: Global, process: Process<'a>) -> Result<Process<'a>, Trouble>
+    ensures gives { IfOk result (λ p. process_seen p ≡ spec.woken (process_seen process.entry)) }
+    ensures failed { IfErr result (λ t. t ≡ Trouble.Memory) }
 {
     let mut process = process;
-    wake(&mut process.stack, budget)?;
+    wake(&mut process.stack)?;
     process.calls = Vec::new(alloc);
     process.delays = Vec::new(alloc);
     Ok(process)
 }
 
 /// All processes at the next edge.
-fn all_woken<'a>(
-    alloc: Global,
-    procs: Vec<Process<'a>>,
-    budget: u64,
-) -> Result<Vec<Process<'a>>, Trouble>
-    ensures { IfOk result (λ v. map process_seen v.items ≡ map spec.woken (map process_seen procs.entry.items)) }
+fn all_woken<'a>(alloc: Global, procs: Vec<Process<'a>>) -> Result<Vec<Process<'a>>, Trouble>
+    ensures gives { IfOk result (λ v. map process_seen v.items ≡ map spec.woken (map process_seen procs.entry.items)) }
+    ensures failed { IfErr result (λ t. t ≡ Trouble.Memory) }
 {
     let mut procs = procs;
     if procs.is_empty() {
         return Ok(procs);
     }
-    let first = woken(alloc, procs.remove(0), budget)?;
-    let mut all = all_woken(alloc, procs, budget)?;
+    let first = woken(alloc, procs.remove(0))?;
+    let mut all = all_woken(alloc, procs)?;
     all.insert(0, first)?;
     Ok(all)
 }
@@ -162,7 +167,8 @@ pub fn next<'a>(
     row: &'a [Bits],
     budget: u64,
 ) -> Result<Config<'a>, Trouble>
-    ensures { IfOk result (λ c. spec.Continues (flat_of design.now) (config_seen last.entry) row.now (config_seen c)) }
+    ensures gives { IfOk result (λ c. spec.Continues (flat_of design.now) (config_seen last.entry) row.now (config_seen c)) }
+    ensures failed { IfErr result (λ t. GivesUp t (IsSound (flat_of design.now) × IsRow (flat_of design.now) row.now × FitsConfig (flat_of design.now) (config_seen last.entry)) (IsUnsettled (flat_of design.now) row.now last.entry.store budget ⊎ (2 ^ 64 ≤ suc last.entry.edge))) }
 {
     let Config {
         edge,
@@ -174,7 +180,7 @@ pub fn next<'a>(
     let Some(edge) = edge.checked_add(1) else {
         return Err(Trouble::Budget);
     };
-    let procs = all_woken(alloc, procs, budget)?;
+    let procs = all_woken(alloc, procs)?;
     let nets = settled_nets(alloc, design, row, store.as_slice(), budget)?;
     Ok(Config {
         edge,

@@ -1,9 +1,11 @@
 //! What an assignment writes.
-ghost use Rattle.std.specs.Prelude.{◌≡◌, map, IfOk};
+ghost use Rattle.std.specs.Prelude.{◌≡◌, map, IfOk, IfErr};
 ghost use Rattle.el_design.specs.Assign as spec;
 ghost use Rattle.el_design.specs.View.{lvalue_of};
 ghost use Rattle.el_design.specs.Plain.{ToVariable};
 ghost use Rattle.ev_run.specs.Simulated.{flat_seen, scene_seen, write_seen};
+ghost use Rattle.el_design.specs.Sound.{IsSound};
+ghost use Rattle.ev_run.specs.Fitting.{Fails, FitsScene, FitsOutput, IsDeclared};
 
 use crate::operators::{Trouble, extended};
 use crate::values::{Scene, spots};
@@ -18,11 +20,11 @@ pub fn writes_of(
     scene: &Scene,
     target: &Target,
     value: Bits,
-    left: u64,
 ) -> Result<Vec<Write>, Trouble>
-    ensures { IfOk result (λ v. map write_seen v.items ≡ spec.writes_of (flat_seen scene.now) (scene_seen scene.now) (lvalue_of target.now) value) }
+    ensures gives { IfOk result (λ v. map write_seen v.items ≡ spec.writes_of (flat_seen scene.now) (scene_seen scene.now) (lvalue_of target.now) value) }
+    ensures failed { IfErr result (λ t. Fails t (IsSound (flat_seen scene.now) × FitsScene (flat_seen scene.now) (scene_seen scene.now) × FitsOutput (flat_seen scene.now) (lvalue_of target.now))) }
 {
-    let spots = spots(alloc, scene, target, left)?;
+    let spots = spots(alloc, scene, target)?;
     writes_to(alloc, spots.as_slice(), value)
 }
 
@@ -33,11 +35,14 @@ pub fn copies_to(
     target: &Target,
     value: Bits,
     signed: bool,
-    left: u64,
 ) -> Result<Vec<Write>, Trouble>
-    ensures { IfOk result (λ v. map write_seen v.items ≡ spec.copies_to (flat_seen scene.now) (scene_seen scene.now) (lvalue_of target.now) value signed) }
+    ensures gives { IfOk result (λ v. map write_seen v.items ≡ spec.copies_to (flat_seen scene.now) (scene_seen scene.now) (lvalue_of target.now) value signed) }
+    ensures failed { IfErr result (λ t. Fails t (IsSound (flat_seen scene.now) × FitsScene (flat_seen scene.now) (scene_seen scene.now) × FitsOutput (flat_seen scene.now) (lvalue_of target.now))) }
 {
-    let spots = spots(alloc, scene, target, left)?;
+    let spots = spots(alloc, scene, target)?;
+    if spots.is_empty() {
+        return Ok(Vec::new(alloc));
+    }
     let value = extended(value, total_width(spots.as_slice())?, signed)?;
     writes_to(alloc, spots.as_slice(), value)
 }
@@ -49,7 +54,8 @@ pub fn variable_writes(
     var: u32,
     value: Bits,
 ) -> Result<Vec<Write>, Trouble>
-    ensures { IfOk result (λ v. map write_seen v.items ≡ spec.writes_of (flat_seen scene.now) (scene_seen scene.now) (ToVariable var) value) }
+    ensures gives { IfOk result (λ v. map write_seen v.items ≡ spec.writes_of (flat_seen scene.now) (scene_seen scene.now) (ToVariable var) value) }
+    ensures failed { IfErr result (λ t. Fails t (IsSound (flat_seen scene.now) × IsDeclared (flat_seen scene.now) var)) }
 {
     let spots = one(alloc, whole(scene.design, var, 0)?)?;
     writes_to(alloc, spots.as_slice(), value)

@@ -1,9 +1,11 @@
 //! What is seen of an edge.
-ghost use Rattle.std.specs.Prelude.{◌≡◌, map, IfOk};
+ghost use Rattle.std.specs.Prelude.{◌≡◌, ℕ, All, map, IfOk, IfErr, ◌≤◌, ◌^◌};
 ghost use Rattle.el_design.specs.Run as spec;
 ghost use Rattle.el_design.specs.Ticks as ticks;
 ghost use Rattle.el_design.specs.View.{flat_of};
 ghost use Rattle.ev_run.specs.Simulated.{process_seen, call_seen, config_seen, seen_seen};
+ghost use Rattle.el_design.specs.Sound.{IsSound, IsNet, HasSource};
+ghost use Rattle.ev_run.specs.Fitting.{Fails, GivesUp, FitsConfig};
 
 use crate::operators::Trouble;
 use crate::processes::{Call, Process};
@@ -32,7 +34,8 @@ pub struct Seen {
 }
 
 fn copied(alloc: Global, calls: &[Call]) -> Result<Vec<Call>, Trouble>
-    ensures { IfOk result (λ v. v.items ≡ calls.now) }
+    ensures gives { IfOk result (λ v. v.items ≡ calls.now) }
+    ensures failed { IfErr result (λ t. t ≡ Trouble.Memory) }
 {
     match calls {
         [] => Ok(Vec::new(alloc)),
@@ -53,7 +56,8 @@ fn copied(alloc: Global, calls: &[Call]) -> Result<Vec<Call>, Trouble>
 
 /// The calls of this edge, per process.
 fn calls_of(alloc: Global, procs: &[Process]) -> Result<Vec<Items<Call>>, Trouble>
-    ensures { IfOk result (λ v. map (λ cs. map call_seen cs) v.items ≡ map (λ p. p.calls) (map process_seen procs.now)) }
+    ensures gives { IfOk result (λ v. map (λ cs. map call_seen cs) v.items ≡ map (λ p. p.calls) (map process_seen procs.now)) }
+    ensures failed { IfErr result (λ t. t ≡ Trouble.Memory) }
 {
     match procs {
         [] => Ok(Vec::new(alloc)),
@@ -68,7 +72,8 @@ fn calls_of(alloc: Global, procs: &[Process]) -> Result<Vec<Items<Call>>, Troubl
 
 /// The ticks of a process's calls with these delays.
 fn busy(delays: &[u32]) -> Result<u128, Trouble>
-    ensures { IfOk result (λ n. n ≡ ticks.busy delays.now) }
+    ensures gives { IfOk result (λ n. n ≡ ticks.busy delays.now) }
+    ensures failed { IfErr result (λ t. GivesUp t (Unit {0}) (2 ^ 128 ≤ ticks.busy delays.now)) }
 {
     match delays {
         [] => Ok(0),
@@ -81,7 +86,8 @@ fn busy(delays: &[u32]) -> Result<u128, Trouble>
 
 /// The longest of the processes.
 fn longest(procs: &[Process]) -> Result<u128, Trouble>
-    ensures { IfOk result (λ n. n ≡ ticks.longest (map (λ p. p.delays) (map process_seen procs.now))) }
+    ensures gives { IfOk result (λ n. n ≡ ticks.longest (map (λ p. p.delays) (map process_seen procs.now))) }
+    ensures failed { IfErr result (λ t. GivesUp t (Unit {0}) (2 ^ 128 ≤ ticks.longest (map (λ p. p.delays) (map process_seen procs.now)))) }
 {
     match procs {
         [] => Ok(0),
@@ -95,14 +101,16 @@ fn longest(procs: &[Process]) -> Result<u128, Trouble>
 
 /// The ticks of the edge.
 fn ticks_of(procs: &[Process]) -> Result<u128, Trouble>
-    ensures { IfOk result (λ n. n ≡ ticks.ticks_of (map (λ p. p.delays) (map process_seen procs.now))) }
+    ensures gives { IfOk result (λ n. n ≡ ticks.ticks_of (map (λ p. p.delays) (map process_seen procs.now))) }
+    ensures failed { IfErr result (λ t. GivesUp t (Unit {0}) (2 ^ 128 ≤ ticks.ticks_of (map (λ p. p.delays) (map process_seen procs.now)))) }
 {
     longest(procs)?.checked_add(1).ok_or(Trouble::Budget)
 }
 
 #[tactic(auto, using(crate::proofs::Lookups::got_net))]
 fn net_width(design: &Design, net: u32) -> Result<u32, Trouble>
-    ensures { IfOk result (λ x. x ≡ spec.net_width (flat_of design.now) net) }
+    ensures gives { IfOk result (λ x. x ≡ spec.net_width (flat_of design.now) net) }
+    ensures failed { IfErr result (λ t. Fails t ((w : ℕ) × IsNet (flat_of design.now) net w)) }
 {
     match design.nets.get(net as usize) {
         Some(net) => Ok(net.width),
@@ -111,10 +119,11 @@ fn net_width(design: &Design, net: u32) -> Result<u32, Trouble>
 }
 
 /// The value on an output pin.
-fn source_value(design: &Design, config: &Config, source: Source) -> Result<Bits, Trouble>
-    ensures { IfOk result (λ x. x ≡ spec.source_value (config_seen config.now) (flat_of design.now) source) }
+fn source_value(design: &Design, config: &Config, pin: &Pin) -> Result<Bits, Trouble>
+    ensures gives { IfOk result (λ x. x ≡ spec.source_value (config_seen config.now) (flat_of design.now) pin.now.from) }
+    ensures failed { IfErr result (λ t. Fails t (IsSound (flat_of design.now) × HasSource (flat_of design.now) pin.now)) }
 {
-    match source {
+    match pin.from {
         Source::Var(v) => stored(config.store.as_slice(), v, 0, variable_width(design, v)?),
         Source::Net(n) => word_at(config.nets.as_slice(), n as u128, net_width(design, n)?),
     }
@@ -126,12 +135,13 @@ fn pins_of(
     config: &Config,
     pins: &[Pin],
 ) -> Result<Vec<Bits>, Trouble>
-    ensures { IfOk result (λ v. v.items ≡ map (λ pin. spec.source_value (config_seen config.now) (flat_of design.now) pin.from) pins.now) }
+    ensures gives { IfOk result (λ v. v.items ≡ map (λ pin. spec.source_value (config_seen config.now) (flat_of design.now) pin.from) pins.now) }
+    ensures failed { IfErr result (λ t. Fails t (IsSound (flat_of design.now) × All (HasSource (flat_of design.now)) pins.now)) }
 {
     match pins {
         [] => Ok(Vec::new(alloc)),
         [pin, rest @ ..] => {
-            let x = source_value(design, config, pin.from)?;
+            let x = source_value(design, config, pin)?;
             let mut all = pins_of(alloc, design, config, rest)?;
             all.insert(0, x)?;
             Ok(all)
@@ -141,7 +151,8 @@ fn pins_of(
 
 /// What is seen of an edge that came to rest.
 pub fn rest_seen(alloc: Global, design: &Design, config: &Config) -> Result<Seen, Trouble>
-    ensures { IfOk result (λ x. seen_seen x ≡ spec.rest_seen (flat_of design.now) (config_seen config.now)) }
+    ensures gives { IfOk result (λ x. seen_seen x ≡ spec.rest_seen (flat_of design.now) (config_seen config.now)) }
+    ensures failed { IfErr result (λ t. GivesUp t (IsSound (flat_of design.now) × FitsConfig (flat_of design.now) (config_seen config.now)) (2 ^ 128 ≤ ticks.ticks_of (map (λ p. p.delays) (config_seen config.now).procs))) }
 {
     let procs = config.procs.as_slice();
     let calls = Items::from_vec(calls_of(alloc, procs)?);
@@ -155,7 +166,8 @@ pub fn rest_seen(alloc: Global, design: &Design, config: &Config) -> Result<Seen
 
 /// What is seen of an edge that starved.
 pub fn starved_seen(alloc: Global, config: &Config) -> Result<Seen, Trouble>
-    ensures { IfOk result (λ x. seen_seen x ≡ spec.starved_seen (config_seen config.now)) }
+    ensures gives { IfOk result (λ x. seen_seen x ≡ spec.starved_seen (config_seen config.now)) }
+    ensures failed { IfErr result (λ t. t ≡ Trouble.Memory) }
 {
     let calls = Items::from_vec(calls_of(alloc, config.procs.as_slice())?);
     Ok(Seen {

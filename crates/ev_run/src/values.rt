@@ -1,5 +1,5 @@
 //! The value of an expression, and what the body of a function does.
-ghost use Rattle.std.specs.Prelude.{◌≡◌, ◌&&◌, ◌^◌, get_or, map, pos, ◌-ℤ◌, if◌then◌else◌, slice_get, option_map, unwrap_or, IfOk, OnOk};
+ghost use Rattle.std.specs.Prelude.{◌≡◌, ◌&&◌, ◌^◌, get_or, map, pos, ◌-ℤ◌, if◌then◌else◌, slice_get, option_map, unwrap_or, IfOk, OnOk, IfErr, neg_ℤ, ◌≤ℤ◌, ℕ, Some, true};
 ghost use Rattle.xt_bits.specs.Word.{word, integer_of};
 ghost use Rattle.xt_bits.specs.Operators.{extend_of, select_of};
 ghost use Rattle.el_design.specs.Value as spec;
@@ -10,6 +10,10 @@ ghost use Rattle.el_design.specs.Function.{call_to, result_of_body, body_store, 
 ghost use Rattle.el_design.specs.Queue as queue;
 ghost use Rattle.el_design.specs.View.{expr_of, range_of, lvalue_of, statement_of, seq_of, arm_of, arms_of, func_of, flat_of};
 ghost use Rattle.ev_run.specs.Simulated.{flat_seen, scene_seen, spot_seen};
+ghost use Rattle.el_design.specs.Plain.{FlatNet};
+ghost use Rattle.el_design.specs.Names.{labels_in};
+ghost use Rattle.el_design.specs.Sound.{IsSound, IsWidth, is_name};
+ghost use Rattle.ev_run.specs.Fitting.{Fails, FitsStore, FitsScene, IsDeclared, IsWellMade, AreWellMade, IsWellMadeRange, FitOperands, FitsTarget, FitsOutput, IsSoundText, IsVariableOf, FitsLoop};
 
 use crate::functions::{entered, value_count};
 use crate::operators::{
@@ -52,7 +56,8 @@ pub fn scene_of<'d, 's>(
 
 /// The word at a place of a list, 0 where there is none.
 pub fn word_at(words: &[Bits], place: u128, width: u32) -> Result<Bits, Trouble>
-    ensures { IfOk result (λ x. x ≡ get_or words.now place (word width 0)) }
+    ensures gives { IfOk result (λ x. x ≡ get_or words.now place (word width 0)) }
+    ensures failed { IfErr result (λ t. Fails t (IsWidth width)) }
 {
     if place < words.len() as u128 {
         Ok(words[place as usize])
@@ -63,7 +68,8 @@ pub fn word_at(words: &[Bits], place: u128, width: u32) -> Result<Bits, Trouble>
 
 /// The word at a place of a variable.
 pub fn stored(store: &[Items<Bits>], var: u32, place: u128, width: u32) -> Result<Bits, Trouble>
-    ensures { IfOk result (λ x. x ≡ stores.stored store.now var place width) }
+    ensures gives { IfOk result (λ x. x ≡ stores.stored store.now var place width) }
+    ensures failed { IfErr result (λ t. Fails t (IsWidth width)) }
 {
     match store.get(var as usize) {
         Some(words) => word_at(words.as_slice(), place, width),
@@ -73,7 +79,8 @@ pub fn stored(store: &[Items<Bits>], var: u32, place: u128, width: u32) -> Resul
 
 /// The place of an index in a memory.
 pub fn place_of(design: &Design, var: u32, index: i128) -> Result<u128, Trouble>
-    ensures { IfOk result (λ x. x ≡ stores.place_of (flat_of design.now) var index) }
+    ensures gives { IfOk result (λ x. x ≡ stores.place_of (flat_of design.now) var index) }
+    ensures failed { IfErr result (λ t. Fails t (IsDeclared (flat_of design.now) var × (neg_ℤ (pos (2 ^ 126)) ≤ℤ index))) }
 {
     let Some(var) = design.vars.get(var as usize) else {
         return Err(Trouble::Unsound);
@@ -91,7 +98,8 @@ pub fn place_of(design: &Design, var: u32, index: i128) -> Result<u128, Trouble>
 /// The declared number of the lowest bit of a name.
 #[tactic(auto, using(crate::proofs::ByKind::lsb_net, crate::proofs::ByKind::lsb_var, crate::proofs::ByKind::lsb_word))]
 fn lsb(design: &Design, e: &TExpr) -> Result<u32, Trouble>
-    ensures { IfOk result (λ x. x ≡ lsb_of (flat_of design.now) (expr_of e.now)) }
+    ensures gives { IfOk result (λ x. x ≡ lsb_of (flat_of design.now) (expr_of e.now)) }
+    ensures failed { let d = flat_of design.now in IfErr result (λ t. Fails t (IsWellMade d (expr_of e.now) × (is_name (expr_of e.now) ≡ true))) }
 {
     match &e.kind {
         Kind::Net(n) => net_lsb(design, *n),
@@ -103,7 +111,8 @@ fn lsb(design: &Design, e: &TExpr) -> Result<u32, Trouble>
 
 #[tactic(auto, using(crate::proofs::Lookups::got_net))]
 fn net_lsb(design: &Design, net: u32) -> Result<u32, Trouble>
-    ensures { IfOk result (λ x. x ≡ unwrap_or (option_map (λ n. n.lsb) (slice_get (flat_of design.now).nets net)) 0) }
+    ensures gives { IfOk result (λ x. x ≡ unwrap_or (option_map (λ n. n.lsb) (slice_get (flat_of design.now).nets net)) 0) }
+    ensures failed { IfErr result (λ t. Fails t ((x : FlatNet) × (slice_get (flat_of design.now).nets net ≡ Some x))) }
 {
     match design.nets.get(net as usize) {
         Some(net) => Ok(net.lsb),
@@ -113,7 +122,8 @@ fn net_lsb(design: &Design, net: u32) -> Result<u32, Trouble>
 
 /// The declared number of a variable's lowest bit.
 pub fn variable_lsb(design: &Design, var: u32) -> Result<u32, Trouble>
-    ensures { IfOk result (λ x. x ≡ stores.declared (flat_of design.now) var (λ v. v.lsb)) }
+    ensures gives { IfOk result (λ x. x ≡ stores.declared (flat_of design.now) var (λ v. v.lsb)) }
+    ensures failed { IfErr result (λ t. Fails t (IsDeclared (flat_of design.now) var)) }
 {
     match design.vars.get(var as usize) {
         Some(var) => Ok(var.lsb),
@@ -124,44 +134,44 @@ pub fn variable_lsb(design: &Design, var: u32) -> Result<u32, Trouble>
 /// The value of an expression.
 #[cycle(value)]
 #[tactic(auto, using(crate::proofs::ByKind::at_binary, crate::proofs::ByKind::at_choice))]
-pub fn value(alloc: Global, scene: &Scene, e: &TExpr, left: u64) -> Result<Bits, Trouble>
-    ensures { IfOk result (λ x. x ≡ spec.value (flat_seen scene.now) (scene_seen scene.now) (expr_of e.now)) }
+pub fn value(alloc: Global, scene: &Scene, e: &TExpr) -> Result<Bits, Trouble>
+    ensures gives { IfOk result (λ x. x ≡ spec.value (flat_seen scene.now) (scene_seen scene.now) (expr_of e.now)) }
+    ensures failed { IfErr result (λ t. Fails t (IsSound (flat_seen scene.now) × FitsScene (flat_seen scene.now) (scene_seen scene.now) × IsWellMade (flat_seen scene.now) (expr_of e.now))) }
 {
-    let Some(left) = left.checked_sub(1) else {
-        return Err(Trouble::Budget);
-    };
     match &e.kind {
         Kind::Num(b) => Ok(*b),
         Kind::Net(n) => word_at(scene.nets, *n as u128, e.width),
         Kind::Var(v) => stored(scene.store, *v, 0, e.width),
         Kind::Word(v, index) => {
-            let place = place_at(alloc, scene, *v, index.get(), left)?;
+            let place = place_at(alloc, scene, *v, index.get())?;
             stored(scene.store, *v, place, e.width)
         }
-        Kind::Select(of, pick) => select(alloc, scene, of.get(), pick, e.width, left),
-        Kind::Unary(op, a) => Ok(unary(*op, value(alloc, scene, a.get(), left)?)),
-        Kind::Binary(op, a, b) => binary_at(alloc, scene, *op, e.signed, a.get(), b.get(), left),
-        Kind::Choice(c, a, b) => choice(alloc, scene, c.get(), a.get(), b.get(), left),
+        Kind::Select(of, pick) => select(alloc, scene, of.get(), pick, e.width),
+        Kind::Unary(op, a) => Ok(unary(*op, value(alloc, scene, a.get())?)),
+        Kind::Binary(op, a, b) => binary_at(alloc, scene, *op, e.signed, a.get(), b.get()),
+        Kind::Choice(c, a, b) => choice(alloc, scene, c.get(), a.get(), b.get()),
         Kind::Concat(parts) => {
-            let parts = values(alloc, scene, parts.as_slice(), left)?;
+            let parts = values(alloc, scene, parts.as_slice())?;
             concatenation(parts.as_slice())
         }
-        Kind::Repeat(times, a) => repetition(*times, value(alloc, scene, a.get(), left)?),
-        Kind::Sign(a) => value(alloc, scene, a.get(), left),
-        Kind::Resize(a) => extended(value(alloc, scene, a.get(), left)?, e.width, e.signed),
+        Kind::Repeat(times, a) => repetition(*times, value(alloc, scene, a.get())?),
+        Kind::Sign(a) => value(alloc, scene, a.get()),
+        Kind::Resize(a) => extended(value(alloc, scene, a.get())?, e.width, e.signed),
         Kind::Call(f, args) => {
-            let args = values(alloc, scene, args.as_slice(), left)?;
-            let x = called(alloc, scene.design, scene.calls, *f, args.as_slice(), left)?;
+            let args = values(alloc, scene, args.as_slice())?;
+            let x = called(alloc, scene.design, scene.calls, *f, args.as_slice())?;
             number(e.width, x.value())
         }
     }
 }
 
 #[cycle(value)]
-pub fn index_of(alloc: Global, scene: &Scene, e: &TExpr, left: u64) -> Result<i128, Trouble>
-    ensures { IfOk result (λ x. x ≡ integer_of (spec.value (flat_seen scene.now) (scene_seen scene.now) (expr_of e.now)) e.now.signed) }
+pub fn index_of(alloc: Global, scene: &Scene, e: &TExpr) -> Result<i128, Trouble>
+    ensures gives { IfOk result (λ x. x ≡ integer_of (spec.value (flat_seen scene.now) (scene_seen scene.now) (expr_of e.now)) e.now.signed) }
+    ensures low { IfOk result (λ x. neg_ℤ (pos (2 ^ 64)) ≤ℤ x) }
+    ensures failed { IfErr result (λ t. Fails t (IsSound (flat_seen scene.now) × FitsScene (flat_seen scene.now) (scene_seen scene.now) × IsWellMade (flat_seen scene.now) (expr_of e.now))) }
 {
-    Ok(integer(value(alloc, scene, e, left)?, e.signed))
+    Ok(integer(value(alloc, scene, e)?, e.signed))
 }
 
 #[cycle(value)]
@@ -171,29 +181,28 @@ fn select(
     of: &TExpr,
     pick: &Pick,
     width: u32,
-    left: u64,
 ) -> Result<Bits, Trouble>
-    ensures { IfOk result (λ x. x ≡ select_of (spec.value (flat_seen scene.now) (scene_seen scene.now) (expr_of of.now)) (lowest (flat_seen scene.now) (scene_seen scene.now) (range_of pick.now) -ℤ pos (lsb_of (flat_seen scene.now) (expr_of of.now))) width) }
+    ensures gives { IfOk result (λ x. x ≡ select_of (spec.value (flat_seen scene.now) (scene_seen scene.now) (expr_of of.now)) (lowest (flat_seen scene.now) (scene_seen scene.now) (range_of pick.now) -ℤ pos (lsb_of (flat_seen scene.now) (expr_of of.now))) width) }
+    ensures failed { let d = flat_seen scene.now in IfErr result (λ t. Fails t (IsSound d × FitsScene d (scene_seen scene.now) × IsWellMade d (expr_of of.now) × (is_name (expr_of of.now) ≡ true) × IsWellMadeRange d (range_of pick.now) × IsWidth width)) }
 {
-    let x = value(alloc, scene, of, left)?;
-    let low = lowest_bit(alloc, scene, pick, left)?;
+    let x = value(alloc, scene, of)?;
+    let low = lowest_bit(alloc, scene, pick)?;
     let lsb = lsb(scene.design, of)?;
     selected(x, less(low, lsb)?, width)
 }
 
 /// The lowest bit that a select takes, as declared.
 #[cycle(value)]
-pub fn lowest_bit(alloc: Global, scene: &Scene, pick: &Pick, left: u64) -> Result<i128, Trouble>
-    ensures { IfOk result (λ x. x ≡ lowest (flat_seen scene.now) (scene_seen scene.now) (range_of pick.now)) }
+pub fn lowest_bit(alloc: Global, scene: &Scene, pick: &Pick) -> Result<i128, Trouble>
+    ensures gives { IfOk result (λ x. x ≡ lowest (flat_seen scene.now) (scene_seen scene.now) (range_of pick.now)) }
+    ensures low { IfOk result (λ x. neg_ℤ (pos (2 ^ 65)) ≤ℤ x) }
+    ensures failed { IfErr result (λ t. Fails t (IsSound (flat_seen scene.now) × FitsScene (flat_seen scene.now) (scene_seen scene.now) × IsWellMadeRange (flat_seen scene.now) (range_of pick.now))) }
 {
     match pick {
-        Pick::Bit(e) => index_of(alloc, scene, e.get(), left),
+        Pick::Bit(e) => index_of(alloc, scene, e.get()),
         Pick::Part(_, low) => Ok(*low as i128),
-        Pick::Up(e, _) => index_of(alloc, scene, e.get(), left),
-        Pick::Down(e, width) => less(
-            index_of(alloc, scene, e.get(), left)?,
-            width.saturating_sub(1),
-        ),
+        Pick::Up(e, _) => index_of(alloc, scene, e.get()),
+        Pick::Down(e, width) => less(index_of(alloc, scene, e.get())?, width.saturating_sub(1)),
     }
 }
 
@@ -205,41 +214,36 @@ fn binary_at(
     signed: bool,
     a: &TExpr,
     b: &TExpr,
-    left: u64,
 ) -> Result<Bits, Trouble>
-    ensures { IfOk result (λ x. x ≡ binary_value op (a.now.signed && b.now.signed) signed (spec.value (flat_seen scene.now) (scene_seen scene.now) (expr_of a.now)) (spec.value (flat_seen scene.now) (scene_seen scene.now) (expr_of b.now))) }
+    ensures gives { IfOk result (λ x. x ≡ binary_value op (a.now.signed && b.now.signed) signed (spec.value (flat_seen scene.now) (scene_seen scene.now) (expr_of a.now)) (spec.value (flat_seen scene.now) (scene_seen scene.now) (expr_of b.now))) }
+    ensures failed { let d = flat_seen scene.now in IfErr result (λ t. Fails t (IsSound d × FitsScene d (scene_seen scene.now) × IsWellMade d (expr_of a.now) × IsWellMade d (expr_of b.now) × FitOperands op (spec.value d (scene_seen scene.now) (expr_of a.now)) (spec.value d (scene_seen scene.now) (expr_of b.now)))) }
 {
-    let x = value(alloc, scene, a, left)?;
-    let y = value(alloc, scene, b, left)?;
+    let x = value(alloc, scene, a)?;
+    let y = value(alloc, scene, b)?;
     binary(op, a.signed && b.signed, signed, x, y)
 }
 
 #[cycle(value)]
-fn choice(
-    alloc: Global,
-    scene: &Scene,
-    test: &TExpr,
-    a: &TExpr,
-    b: &TExpr,
-    left: u64,
-) -> Result<Bits, Trouble>
-    ensures { IfOk result (λ x. x ≡ (if is_up (spec.value (flat_seen scene.now) (scene_seen scene.now) (expr_of test.now)) then spec.value (flat_seen scene.now) (scene_seen scene.now) (expr_of a.now) else spec.value (flat_seen scene.now) (scene_seen scene.now) (expr_of b.now))) }
+fn choice(alloc: Global, scene: &Scene, test: &TExpr, a: &TExpr, b: &TExpr) -> Result<Bits, Trouble>
+    ensures gives { IfOk result (λ x. x ≡ (if is_up (spec.value (flat_seen scene.now) (scene_seen scene.now) (expr_of test.now)) then spec.value (flat_seen scene.now) (scene_seen scene.now) (expr_of a.now) else spec.value (flat_seen scene.now) (scene_seen scene.now) (expr_of b.now))) }
+    ensures failed { let d = flat_seen scene.now in IfErr result (λ t. Fails t (IsSound d × FitsScene d (scene_seen scene.now) × IsWellMade d (expr_of test.now) × IsWellMade d (expr_of a.now) × IsWellMade d (expr_of b.now))) }
 {
-    if value(alloc, scene, test, left)?.any() {
-        value(alloc, scene, a, left)
+    if value(alloc, scene, test)?.any() {
+        value(alloc, scene, a)
     } else {
-        value(alloc, scene, b, left)
+        value(alloc, scene, b)
     }
 }
 
 /// The values of expressions.
 #[cycle(value)]
-fn values(alloc: Global, scene: &Scene, all: &[TExpr], left: u64) -> Result<Vec<Bits>, Trouble>
-    ensures { IfOk result (λ v. v.items ≡ map (λ e. spec.value (flat_seen scene.now) (scene_seen scene.now) (expr_of e)) all.now) }
+fn values(alloc: Global, scene: &Scene, all: &[TExpr]) -> Result<Vec<Bits>, Trouble>
+    ensures gives { IfOk result (λ v. v.items ≡ map (λ e. spec.value (flat_seen scene.now) (scene_seen scene.now) (expr_of e)) all.now) }
+    ensures failed { let d = flat_seen scene.now in IfErr result (λ t. Fails t (IsSound d × FitsScene d (scene_seen scene.now) × AreWellMade d (map expr_of all.now))) }
 {
     let mut values = Vec::new(alloc);
     for e in all {
-        values.push(value(alloc, scene, e, left)?)?;
+        values.push(value(alloc, scene, e)?)?;
     }
     Ok(values)
 }
@@ -254,16 +258,16 @@ fn called(
     calls: usize,
     function: u32,
     args: &[Bits],
-    left: u64,
 ) -> Result<Bits, Trouble>
-    ensures { IfOk result (λ x. x ≡ call_to (flat_of design.now) calls function args.now) }
+    ensures gives { IfOk result (λ x. x ≡ call_to (flat_of design.now) calls function args.now) }
+    ensures failed { IfErr result (λ t. Fails t (IsSound (flat_of design.now))) }
 {
     let Some(below) = calls.checked_sub(1) else {
         return number(1, 0);
     };
     match design.funcs.get(function as usize) {
         None => number(1, 0),
-        Some(function) => returned(alloc, design, below, function, args, left),
+        Some(function) => returned(alloc, design, below, function, args),
     }
 }
 
@@ -275,12 +279,12 @@ fn returned(
     calls: usize,
     function: &Func,
     args: &[Bits],
-    left: u64,
 ) -> Result<Bits, Trouble>
-    ensures { IfOk result (λ x. x ≡ result_of_body (flat_of design.now) (call_to (flat_of design.now) calls) (func_of function.now) args.now) }
+    ensures gives { IfOk result (λ x. x ≡ result_of_body (flat_of design.now) (call_to (flat_of design.now) calls) (func_of function.now) args.now) }
+    ensures failed { let d = flat_of design.now in IfErr result (λ t. Fails t (IsSound d × (f : ℕ) × (slice_get d.funcs f ≡ Some (func_of function.now)))) }
 {
     let mut store = entered(alloc, design, function.ins.as_slice(), args)?;
-    body(alloc, design, calls, &function.body, &mut store, left)?;
+    body(alloc, design, calls, &function.body, &mut store)?;
     let width = variable_width(design, function.result)?;
     stored(store.as_slice(), function.result, 0, width)
 }
@@ -293,18 +297,15 @@ fn body(
     calls: usize,
     statement: &Stmt,
     store: &mut Items<Items<Bits>>,
-    left: u64,
 ) -> Result<(), Trouble>
-    ensures { OnOk result (store.new ≡ body_store (flat_of design.now) (call_to (flat_of design.now) calls) (statement_of statement.now) store.old) }
+    ensures gives { OnOk result (store.new ≡ body_store (flat_of design.now) (call_to (flat_of design.now) calls) (statement_of statement.now) store.old) }
+    ensures failed { let d = flat_of design.now in IfErr result (λ t. Fails t (IsSound d × FitsStore d store.old × IsSoundText d (statement_of statement.now))) }
 {
-    let Some(left) = left.checked_sub(1) else {
-        return Err(Trouble::Budget);
-    };
     match statement {
-        Stmt::Block { body, .. } => sequence(alloc, design, calls, body.as_slice(), store, left),
-        Stmt::Assign { to, value, .. } => assign(alloc, design, calls, to, value, store, left),
+        Stmt::Block { body, .. } => sequence(alloc, design, calls, body.as_slice(), store),
+        Stmt::Assign { to, value, .. } => assign(alloc, design, calls, to, value, store),
         Stmt::If { test, yes, no, .. } => {
-            branch(alloc, design, calls, test, yes.get(), no.get(), store, left)
+            branch(alloc, design, calls, test, yes.get(), no.get(), store)
         }
         Stmt::Case {
             on,
@@ -313,7 +314,7 @@ fn body(
             ..
         } => {
             let arms = arms.as_slice();
-            choose(alloc, design, calls, on, arms, other.get(), store, left)
+            choose(alloc, design, calls, on, arms, other.get(), store)
         }
         Stmt::For {
             var,
@@ -324,12 +325,10 @@ fn body(
             ..
         } => {
             let body = body.get();
-            count(
-                alloc, design, calls, *var, first, test, next, body, store, left,
-            )
+            count(alloc, design, calls, *var, first, test, next, body, store)
         }
         Stmt::Repeat { count, body, .. } => {
-            repeat(alloc, design, calls, count, body.get(), store, left)
+            repeat(alloc, design, calls, count, body.get(), store)
         }
         Stmt::Null => Ok(()),
         Stmt::While { .. } => Ok(()),
@@ -348,18 +347,15 @@ fn sequence(
     calls: usize,
     all: &[Stmt],
     store: &mut Items<Items<Bits>>,
-    left: u64,
 ) -> Result<(), Trouble>
-    ensures { OnOk result (store.new ≡ body_store (flat_of design.now) (call_to (flat_of design.now) calls) (seq_of (map statement_of all.now)) store.old) }
+    ensures gives { OnOk result (store.new ≡ body_store (flat_of design.now) (call_to (flat_of design.now) calls) (seq_of (map statement_of all.now)) store.old) }
+    ensures failed { let d = flat_of design.now in IfErr result (λ t. Fails t (IsSound d × FitsStore d store.old × IsSoundText d (seq_of (map statement_of all.now)))) }
 {
     match all {
         [] => Ok(()),
         [first, rest @ ..] => {
-            let Some(left) = left.checked_sub(1) else {
-                return Err(Trouble::Budget);
-            };
-            body(alloc, design, calls, first, store, left)?;
-            sequence(alloc, design, calls, rest, store, left)
+            body(alloc, design, calls, first, store)?;
+            sequence(alloc, design, calls, rest, store)
         }
     }
 }
@@ -372,9 +368,9 @@ fn assign(
     to: &Target,
     e: &TExpr,
     store: &mut Items<Items<Bits>>,
-    left: u64,
 ) -> Result<(), Trouble>
-    ensures { let d = flat_of design.now in let call = call_to d calls in OnOk result (store.new ≡ stores.put_all store.old (assigns.writes_of d (body_scene call store.old) (lvalue_of to.now) (spec.value d (body_scene call store.old) (expr_of e.now)))) }
+    ensures gives { let d = flat_of design.now in let call = call_to d calls in OnOk result (store.new ≡ stores.put_all store.old (assigns.writes_of d (body_scene call store.old) (lvalue_of to.now) (spec.value d (body_scene call store.old) (expr_of e.now)))) }
+    ensures failed { let d = flat_of design.now in IfErr result (λ t. Fails t (IsSound d × FitsStore d store.old × FitsOutput d (lvalue_of to.now) × IsWellMade d (expr_of e.now))) }
 {
     let scene = Scene {
         design,
@@ -382,8 +378,8 @@ fn assign(
         nets: &[],
         store: store.as_slice(),
     };
-    let x = value(alloc, &scene, e, left)?;
-    let spots = spots(alloc, &scene, to, left)?;
+    let x = value(alloc, &scene, e)?;
+    let spots = spots(alloc, &scene, to)?;
     let writes = writes_to(alloc, spots.as_slice(), x)?;
     put_all(alloc, store, writes.as_slice())
 }
@@ -397,12 +393,12 @@ fn set_variable(
     var: u32,
     e: &TExpr,
     store: &mut Items<Items<Bits>>,
-    left: u64,
 ) -> Result<(), Trouble>
-    ensures { OnOk result (store.new ≡ assigned (flat_of design.now) (call_to (flat_of design.now) calls) var (expr_of e.now) store.old) }
+    ensures gives { OnOk result (store.new ≡ assigned (flat_of design.now) (call_to (flat_of design.now) calls) var (expr_of e.now) store.old) }
+    ensures failed { let d = flat_of design.now in IfErr result (λ t. Fails t (IsSound d × FitsStore d store.old × IsVariableOf d var × IsWellMade d (expr_of e.now))) }
 {
     let to = Target::Var(var);
-    assign(alloc, design, calls, &to, e, store, left)
+    assign(alloc, design, calls, &to, e, store)
 }
 
 #[cycle(value)]
@@ -414,9 +410,9 @@ fn branch(
     yes: &Stmt,
     no: &Stmt,
     store: &mut Items<Items<Bits>>,
-    left: u64,
 ) -> Result<(), Trouble>
-    ensures { let d = flat_of design.now in let call = call_to d calls in OnOk result (store.new ≡ (if is_up (spec.value d (body_scene call store.old) (expr_of test.now)) then body_store d call (statement_of yes.now) store.old else body_store d call (statement_of no.now) store.old)) }
+    ensures gives { let d = flat_of design.now in let call = call_to d calls in OnOk result (store.new ≡ (if is_up (spec.value d (body_scene call store.old) (expr_of test.now)) then body_store d call (statement_of yes.now) store.old else body_store d call (statement_of no.now) store.old)) }
+    ensures failed { let d = flat_of design.now in IfErr result (λ t. Fails t (IsSound d × FitsStore d store.old × IsWellMade d (expr_of test.now) × IsSoundText d (statement_of yes.now) × IsSoundText d (statement_of no.now))) }
 {
     let scene = Scene {
         design,
@@ -424,10 +420,10 @@ fn branch(
         nets: &[],
         store: store.as_slice(),
     };
-    if value(alloc, &scene, test, left)?.any() {
-        body(alloc, design, calls, yes, store, left)
+    if value(alloc, &scene, test)?.any() {
+        body(alloc, design, calls, yes, store)
     } else {
-        body(alloc, design, calls, no, store, left)
+        body(alloc, design, calls, no, store)
     }
 }
 
@@ -438,22 +434,19 @@ pub fn has_label(
     scene: &Scene,
     on: &TExpr,
     labels: &[TExpr],
-    left: u64,
 ) -> Result<bool, Trouble>
-    ensures { IfOk result (λ b. b ≡ assigns.has_label (flat_seen scene.now) (scene_seen scene.now) (expr_of on.now) (map expr_of labels.now)) }
+    ensures gives { IfOk result (λ b. b ≡ assigns.has_label (flat_seen scene.now) (scene_seen scene.now) (expr_of on.now) (map expr_of labels.now)) }
+    ensures failed { IfErr result (λ t. Fails t (IsSound (flat_seen scene.now) × FitsScene (flat_seen scene.now) (scene_seen scene.now) × IsWellMade (flat_seen scene.now) (expr_of on.now) × AreWellMade (flat_seen scene.now) (map expr_of labels.now))) }
 {
     match labels {
         [] => Ok(false),
         [label, rest @ ..] => {
-            let Some(left) = left.checked_sub(1) else {
-                return Err(Trouble::Budget);
-            };
-            let x = value(alloc, scene, on, left)?;
-            let y = value(alloc, scene, label, left)?;
+            let x = value(alloc, scene, on)?;
+            let y = value(alloc, scene, label)?;
             if x.value() == y.value() {
                 Ok(true)
             } else {
-                has_label(alloc, scene, on, rest, left)
+                has_label(alloc, scene, on, rest)
             }
         }
     }
@@ -469,15 +462,12 @@ fn choose(
     arms: &[Arm],
     other: &Stmt,
     store: &mut Items<Items<Bits>>,
-    left: u64,
 ) -> Result<(), Trouble>
-    ensures { let d = flat_of design.now in let call = call_to d calls in OnOk result (store.new ≡ body_store d call (arms_of (expr_of on.now) (map arm_of arms.now) (statement_of other.now)) store.old) }
+    ensures gives { let d = flat_of design.now in let call = call_to d calls in OnOk result (store.new ≡ body_store d call (arms_of (expr_of on.now) (map arm_of arms.now) (statement_of other.now)) store.old) }
+    ensures failed { let d = flat_of design.now in IfErr result (λ t. Fails t (IsSound d × FitsStore d store.old × IsWellMade d (expr_of on.now) × AreWellMade d (labels_in (arms_of (expr_of on.now) (map arm_of arms.now) (statement_of other.now))) × IsSoundText d (arms_of (expr_of on.now) (map arm_of arms.now) (statement_of other.now)))) }
 {
-    let Some(left) = left.checked_sub(1) else {
-        return Err(Trouble::Budget);
-    };
     match arms {
-        [] => body(alloc, design, calls, other, store, left),
+        [] => body(alloc, design, calls, other, store),
         [arm, rest @ ..] => {
             let scene = Scene {
                 design,
@@ -485,10 +475,10 @@ fn choose(
                 nets: &[],
                 store: store.as_slice(),
             };
-            if has_label(alloc, &scene, on, arm.labels.as_slice(), left)? {
-                body(alloc, design, calls, &arm.body, store, left)
+            if has_label(alloc, &scene, on, arm.labels.as_slice())? {
+                body(alloc, design, calls, &arm.body, store)
             } else {
-                choose(alloc, design, calls, on, rest, other, store, left)
+                choose(alloc, design, calls, on, rest, other, store)
             }
         }
     }
@@ -506,20 +496,17 @@ fn count(
     next: &TExpr,
     inner: &Stmt,
     store: &mut Items<Items<Bits>>,
-    left: u64,
 ) -> Result<(), Trouble>
-    ensures { let d = flat_of design.now in let call = call_to d calls in OnOk result (store.new ≡ while_up (2 ^ stores.width_of d var) (λ st. is_up (spec.value d (body_scene call st) (expr_of test.now))) (λ st. assigned d call var (expr_of next.now) (body_store d call (statement_of inner.now) st)) (assigned d call var (expr_of first.now) store.old)) }
+    ensures gives { let d = flat_of design.now in let call = call_to d calls in OnOk result (store.new ≡ while_up (2 ^ stores.width_of d var) (λ st. is_up (spec.value d (body_scene call st) (expr_of test.now))) (λ st. assigned d call var (expr_of next.now) (body_store d call (statement_of inner.now) st)) (assigned d call var (expr_of first.now) store.old)) }
+    ensures failed { let d = flat_of design.now in IfErr result (λ t. Fails t (IsSound d × FitsStore d store.old × IsWellMade d (expr_of first.now) × FitsLoop d var (expr_of test.now) (expr_of next.now) (statement_of inner.now))) }
 {
     let turns = value_count(design, var)?;
-    set_variable(alloc, design, calls, var, first, store, left)?;
-    counted(
-        alloc, design, calls, turns, var, test, next, inner, store, left,
-    )
+    set_variable(alloc, design, calls, var, first, store)?;
+    counted(alloc, design, calls, turns, var, test, next, inner, store)
 }
 
 /// So many turns of a `for` at most.
 #[cycle(value)]
-#[tactic(auto, using(crate::proofs::Calling::while_none))]
 fn counted(
     alloc: Global,
     design: &Design,
@@ -530,31 +517,24 @@ fn counted(
     next: &TExpr,
     inner: &Stmt,
     store: &mut Items<Items<Bits>>,
-    left: u64,
 ) -> Result<(), Trouble>
-    ensures { let d = flat_of design.now in let call = call_to d calls in OnOk result (store.new ≡ while_up turns (λ st. is_up (spec.value d (body_scene call st) (expr_of test.now))) (λ st. assigned d call var (expr_of next.now) (body_store d call (statement_of inner.now) st)) store.old) }
+    ensures gives { let d = flat_of design.now in let call = call_to d calls in OnOk result (store.new ≡ while_up turns (λ st. is_up (spec.value d (body_scene call st) (expr_of test.now))) (λ st. assigned d call var (expr_of next.now) (body_store d call (statement_of inner.now) st)) store.old) }
+    ensures failed { let d = flat_of design.now in IfErr result (λ t. Fails t (IsSound d × FitsStore d store.old × FitsLoop d var (expr_of test.now) (expr_of next.now) (statement_of inner.now))) }
 {
-    let Some(left) = left.checked_sub(1) else {
-        return Err(Trouble::Budget);
-    };
-    let Some(turns) = turns.checked_sub(1) else {
-        return Ok(());
-    };
-    let scene = Scene {
-        design,
-        calls,
-        nets: &[],
-        store: store.as_slice(),
-    };
-    if value(alloc, &scene, test, left)?.any() {
-        body(alloc, design, calls, inner, store, left)?;
-        set_variable(alloc, design, calls, var, next, store, left)?;
-        counted(
-            alloc, design, calls, turns, var, test, next, inner, store, left,
-        )
-    } else {
-        Ok(())
+    for _turn in 0..turns {
+        let scene = Scene {
+            design,
+            calls,
+            nets: &[],
+            store: store.as_slice(),
+        };
+        if !value(alloc, &scene, test)?.any() {
+            return Ok(());
+        }
+        body(alloc, design, calls, inner, store)?;
+        set_variable(alloc, design, calls, var, next, store)?;
     }
+    Ok(())
 }
 
 /// A `repeat`.
@@ -566,9 +546,9 @@ fn repeat(
     turns: &TExpr,
     inner: &Stmt,
     store: &mut Items<Items<Bits>>,
-    left: u64,
 ) -> Result<(), Trouble>
-    ensures { let d = flat_of design.now in let call = call_to d calls in OnOk result (store.new ≡ times (assigns.count_of d (body_scene call store.old) (expr_of turns.now)) (body_store d call (statement_of inner.now)) store.old) }
+    ensures gives { let d = flat_of design.now in let call = call_to d calls in OnOk result (store.new ≡ times (assigns.count_of d (body_scene call store.old) (expr_of turns.now)) (body_store d call (statement_of inner.now)) store.old) }
+    ensures failed { let d = flat_of design.now in IfErr result (λ t. Fails t (IsSound d × FitsStore d store.old × IsWellMade d (expr_of turns.now) × IsSoundText d (statement_of inner.now))) }
 {
     let scene = Scene {
         design,
@@ -576,13 +556,12 @@ fn repeat(
         nets: &[],
         store: store.as_slice(),
     };
-    let turns = turn_count(value(alloc, &scene, turns, left)?, turns.signed);
-    repeated(alloc, design, calls, turns, inner, store, left)
+    let turns = turn_count(value(alloc, &scene, turns)?, turns.signed);
+    repeated(alloc, design, calls, turns, inner, store)
 }
 
 /// So many turns of a `repeat`.
 #[cycle(value)]
-#[tactic(auto, using(crate::proofs::Calling::times_none, crate::proofs::Calling::times_more))]
 fn repeated(
     alloc: Global,
     design: &Design,
@@ -590,48 +569,33 @@ fn repeated(
     turns: u128,
     inner: &Stmt,
     store: &mut Items<Items<Bits>>,
-    left: u64,
 ) -> Result<(), Trouble>
-    ensures { OnOk result (store.new ≡ times turns (body_store (flat_of design.now) (call_to (flat_of design.now) calls) (statement_of inner.now)) store.old) }
+    ensures gives { OnOk result (store.new ≡ times turns (body_store (flat_of design.now) (call_to (flat_of design.now) calls) (statement_of inner.now)) store.old) }
+    ensures failed { let d = flat_of design.now in IfErr result (λ t. Fails t (IsSound d × FitsStore d store.old × IsSoundText d (statement_of inner.now))) }
 {
-    let Some(left) = left.checked_sub(1) else {
-        return Err(Trouble::Budget);
-    };
-    let Some(turns) = turns.checked_sub(1) else {
-        return Ok(());
-    };
-    body(alloc, design, calls, inner, store, left)?;
-    repeated(alloc, design, calls, turns, inner, store, left)
+    for _turn in 0..turns {
+        body(alloc, design, calls, inner, store)?;
+    }
+    Ok(())
 }
 
 /// The place of a memory's word by its index.
 #[cycle(value)]
-fn place_at(
-    alloc: Global,
-    scene: &Scene,
-    var: u32,
-    index: &TExpr,
-    left: u64,
-) -> Result<u128, Trouble>
-    ensures { IfOk result (λ x. x ≡ assigns.place_at (flat_seen scene.now) (scene_seen scene.now) var (expr_of index.now)) }
+fn place_at(alloc: Global, scene: &Scene, var: u32, index: &TExpr) -> Result<u128, Trouble>
+    ensures gives { IfOk result (λ x. x ≡ assigns.place_at (flat_seen scene.now) (scene_seen scene.now) var (expr_of index.now)) }
+    ensures failed { let d = flat_seen scene.now in IfErr result (λ t. Fails t (IsSound d × FitsScene d (scene_seen scene.now) × IsDeclared d var × IsWellMade d (expr_of index.now))) }
 {
-    let index = index_of(alloc, scene, index, left)?;
+    let index = index_of(alloc, scene, index)?;
     place_of(scene.design, var, index)
 }
 
 /// The bits of a word that a range takes.
 #[cycle(value)]
-fn within(
-    alloc: Global,
-    scene: &Scene,
-    var: u32,
-    place: u128,
-    pick: &Pick,
-    left: u64,
-) -> Result<Spot, Trouble>
-    ensures { IfOk result (λ x. spot_seen x ≡ stores.Within var place (assigns.range_low (flat_seen scene.now) (scene_seen scene.now) var (range_of pick.now)) (assigns.range_width (range_of pick.now))) }
+fn within(alloc: Global, scene: &Scene, var: u32, place: u128, pick: &Pick) -> Result<Spot, Trouble>
+    ensures gives { IfOk result (λ x. spot_seen x ≡ stores.Within var place (assigns.range_low (flat_seen scene.now) (scene_seen scene.now) var (range_of pick.now)) (assigns.range_width (range_of pick.now))) }
+    ensures failed { let d = flat_seen scene.now in IfErr result (λ t. Fails t (IsSound d × FitsScene d (scene_seen scene.now) × IsDeclared d var × IsWellMadeRange d (range_of pick.now))) }
 {
-    let lowest = lowest_bit(alloc, scene, pick, left)?;
+    let lowest = lowest_bit(alloc, scene, pick)?;
     let low = less(lowest, variable_lsb(scene.design, var)?)?;
     let width = range_width(pick)?;
     Ok(Spot::Within {
@@ -645,27 +609,25 @@ fn within(
 /// The spots of a target, from left to right, with all its indexes evaluated.
 #[cycle(value)]
 #[tactic(auto, using(crate::proofs::Parts::spots_parts))]
-pub fn spots(alloc: Global, scene: &Scene, target: &Target, left: u64) -> Result<Vec<Spot>, Trouble>
-    ensures { IfOk result (λ v. map spot_seen v.items ≡ assigns.spots (flat_seen scene.now) (scene_seen scene.now) (lvalue_of target.now)) }
+pub fn spots(alloc: Global, scene: &Scene, target: &Target) -> Result<Vec<Spot>, Trouble>
+    ensures gives { IfOk result (λ v. map spot_seen v.items ≡ assigns.spots (flat_seen scene.now) (scene_seen scene.now) (lvalue_of target.now)) }
+    ensures failed { IfErr result (λ t. Fails t (IsSound (flat_seen scene.now) × FitsScene (flat_seen scene.now) (scene_seen scene.now) × FitsTarget (flat_seen scene.now) (lvalue_of target.now))) }
 {
-    let Some(left) = left.checked_sub(1) else {
-        return Err(Trouble::Budget);
-    };
     match target {
         Target::Var(v) => one(alloc, whole(scene.design, *v, 0)?),
-        Target::Part(v, pick) => one(alloc, within(alloc, scene, *v, 0, pick, left)?),
+        Target::Part(v, pick) => one(alloc, within(alloc, scene, *v, 0, pick)?),
         Target::Word(v, index) => {
-            let place = place_at(alloc, scene, *v, index.get(), left)?;
+            let place = place_at(alloc, scene, *v, index.get())?;
             one(alloc, whole(scene.design, *v, place)?)
         }
         Target::WordPart(v, index, pick) => {
-            let place = place_at(alloc, scene, *v, index.get(), left)?;
-            one(alloc, within(alloc, scene, *v, place, pick, left)?)
+            let place = place_at(alloc, scene, *v, index.get())?;
+            one(alloc, within(alloc, scene, *v, place, pick)?)
         }
         Target::Concat(parts) => {
             let mut all = Vec::new(alloc);
             for part in parts.as_slice() {
-                let mut more = spots(alloc, scene, part, left)?;
+                let mut more = spots(alloc, scene, part)?;
                 all.append(&mut more)?;
             }
             Ok(all)
@@ -682,7 +644,8 @@ pub fn turn_count(x: Bits, signed: bool) -> u128
 }
 
 pub fn less(a: i128, b: u32) -> Result<i128, Trouble>
-    ensures { IfOk result (λ x. x ≡ a -ℤ pos b) }
+    ensures gives { IfOk result (λ x. x ≡ a -ℤ pos b) }
+    ensures failed { IfErr result (λ t. Fails t (neg_ℤ (pos (2 ^ 126)) ≤ℤ a)) }
 {
     a.checked_sub(b as i128).ok_or(Trouble::Unsound)
 }

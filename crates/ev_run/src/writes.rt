@@ -1,9 +1,12 @@
 //! Where bits are written, and what variables hold after it.
-ghost use Rattle.std.specs.Prelude.{◌≡◌, [], ◌∷◌, ◌-◌, suc, map, get_or, set, IfOk, OnOk};
+ghost use Rattle.std.specs.Prelude.{◌≡◌, [], ◌∷◌, ◌-◌, suc, map, get_or, set, IfOk, OnOk, IfErr, ◌≤◌, ◌<◌, length, All};
 ghost use Rattle.el_design.specs.Assign as spec;
 ghost use Rattle.el_design.specs.Store as stores;
 ghost use Rattle.el_design.specs.View.{range_of, flat_of};
 ghost use Rattle.ev_run.specs.Simulated.{spot_seen, write_seen};
+ghost use Rattle.xt_base.specs.declared.TheConstants.{MAX_WIDTH};
+ghost use Rattle.el_design.specs.Sound.{IsRange};
+ghost use Rattle.ev_run.specs.Fitting.{Fails, IsDeclared};
 
 use crate::operators::{Trouble, selected};
 use el_design::{Design, Pick};
@@ -67,7 +70,8 @@ impl Spot {
 
 /// The declared width of a variable.
 pub fn variable_width(design: &Design, var: u32) -> Result<u32, Trouble>
-    ensures { IfOk result (λ x. x ≡ stores.width_of (flat_of design.now) var) }
+    ensures gives { IfOk result (λ x. x ≡ stores.width_of (flat_of design.now) var) }
+    ensures failed { IfErr result (λ t. Fails t (IsDeclared (flat_of design.now) var)) }
 {
     match design.vars.get(var as usize) {
         Some(var) => Ok(var.width),
@@ -77,7 +81,8 @@ pub fn variable_width(design: &Design, var: u32) -> Result<u32, Trouble>
 
 /// How many bits a range takes.
 pub fn range_width(pick: &Pick) -> Result<u32, Trouble>
-    ensures { IfOk result (λ x. x ≡ spec.range_width (range_of pick.now)) }
+    ensures gives { IfOk result (λ x. x ≡ spec.range_width (range_of pick.now)) }
+    ensures failed { IfErr result (λ t. Fails t (IsRange (range_of pick.now))) }
 {
     match pick {
         Pick::Bit(_) => Ok(1),
@@ -88,7 +93,8 @@ pub fn range_width(pick: &Pick) -> Result<u32, Trouble>
 }
 
 fn part_width(high: u32, low: u32) -> Result<u32, Trouble>
-    ensures { IfOk result (λ x. x ≡ suc high - low) }
+    ensures gives { IfOk result (λ x. x ≡ suc high - low) }
+    ensures failed { IfErr result (λ t. Fails t (high < u32.MAX)) }
 {
     match high.checked_add(1) {
         Some(end) => Ok(end.saturating_sub(low)),
@@ -98,7 +104,8 @@ fn part_width(high: u32, low: u32) -> Result<u32, Trouble>
 
 /// A whole word of a variable.
 pub fn whole(design: &Design, var: u32, place: u128) -> Result<Spot, Trouble>
-    ensures { IfOk result (λ x. spot_seen x ≡ stores.Whole var place (stores.width_of (flat_of design.now) var)) }
+    ensures gives { IfOk result (λ x. spot_seen x ≡ stores.Whole var place (stores.width_of (flat_of design.now) var)) }
+    ensures failed { IfErr result (λ t. Fails t (IsDeclared (flat_of design.now) var)) }
 {
     Ok(Spot::Whole {
         var,
@@ -109,7 +116,8 @@ pub fn whole(design: &Design, var: u32, place: u128) -> Result<Spot, Trouble>
 
 /// One spot alone.
 pub fn one(alloc: Global, spot: Spot) -> Result<Vec<Spot>, Trouble>
-    ensures { IfOk result (λ v. v.items ≡ spot ∷ []) }
+    ensures gives { IfOk result (λ v. v.items ≡ spot ∷ []) }
+    ensures failed { IfErr result (λ t. t ≡ Trouble.Memory) }
 {
     let mut all = Vec::new(alloc);
     all.push(spot)?;
@@ -118,7 +126,8 @@ pub fn one(alloc: Global, spot: Spot) -> Result<Vec<Spot>, Trouble>
 
 /// A value cut up for the spots, the high bits for the first.
 pub fn writes_to(alloc: Global, spots: &[Spot], value: Bits) -> Result<Vec<Write>, Trouble>
-    ensures { IfOk result (λ v. map write_seen v.items ≡ stores.writes_to (map spot_seen spots.now) value) }
+    ensures gives { IfOk result (λ v. map write_seen v.items ≡ stores.writes_to (map spot_seen spots.now) value) }
+    ensures failed { IfErr result (λ t. Fails t ((stores.total_width (map spot_seen spots.now) ≤ MAX_WIDTH) × All (λ p. 1 ≤ stores.spot_width p) (map spot_seen spots.now))) }
 {
     match spots {
         [] => Ok(Vec::new(alloc)),
@@ -133,7 +142,8 @@ pub fn writes_to(alloc: Global, spots: &[Spot], value: Bits) -> Result<Vec<Write
 
 /// The widths of the spots together.
 pub fn total_width(spots: &[Spot]) -> Result<u32, Trouble>
-    ensures { IfOk result (λ x. x ≡ stores.total_width (map spot_seen spots.now)) }
+    ensures gives { IfOk result (λ x. x ≡ stores.total_width (map spot_seen spots.now)) }
+    ensures failed { IfErr result (λ t. Fails t (stores.total_width (map spot_seen spots.now) ≤ MAX_WIDTH)) }
 {
     match spots {
         [] => Ok(0),
@@ -156,7 +166,8 @@ fn written(spot: Spot, bits: Bits, old: Bits) -> Bits
 
 /// The words of a variable after a write.
 fn written_words(alloc: Global, words: &[Bits], write: Write) -> Result<Items<Bits>, Trouble>
-    ensures { IfOk result (λ v. v ≡ set words.now (stores.spot_place (spot_seen write.spot)) (stores.written (spot_seen write.spot) write.bits (get_or words.now (stores.spot_place (spot_seen write.spot)) write.bits))) }
+    ensures gives { IfOk result (λ v. v ≡ set words.now (stores.spot_place (spot_seen write.spot)) (stores.written (spot_seen write.spot) write.bits (get_or words.now (stores.spot_place (spot_seen write.spot)) write.bits))) }
+    ensures failed { IfErr result (λ t. t ≡ Trouble.Memory) }
 {
     let mut all = Items::from_slice(alloc, words)?;
     let place = write.spot.place();
@@ -171,7 +182,8 @@ fn written_words(alloc: Global, words: &[Bits], write: Write) -> Result<Items<Bi
 
 /// Stores a write.
 pub fn put_write(alloc: Global, store: &mut Items<Items<Bits>>, write: Write) -> Result<(), Trouble>
-    ensures { OnOk result (store.new ≡ stores.put_write store.old (write_seen write)) }
+    ensures gives { OnOk result (store.new ≡ stores.put_write store.old (write_seen write)) }
+    ensures failed { IfErr result (λ t. Fails t (stores.spot_variable (spot_seen write.spot) < length store.old)) }
 {
     let var = write.spot.var() as usize;
     let words = match store.get(var) {
@@ -188,7 +200,8 @@ pub fn put_all(
     store: &mut Items<Items<Bits>>,
     writes: &[Write],
 ) -> Result<(), Trouble>
-    ensures { OnOk result (store.new ≡ stores.put_all store.old (map write_seen writes.now)) }
+    ensures gives { OnOk result (store.new ≡ stores.put_all store.old (map write_seen writes.now)) }
+    ensures failed { IfErr result (λ t. Fails t (All (λ w. stores.spot_variable w.spot < length store.old) (map write_seen writes.now))) }
 {
     match writes {
         [] => Ok(()),

@@ -1,0 +1,8 @@
+-- Work that begins again at its end. This project's own.
+use Rattle.std.specs.Prelude.{Bool, true, false}
+use Rattle.el_design.specs.Plain.{Forever}
+use Rattle.el_design.specs.Stack.{Work, Do}
+
+abbrev pub is_endless : Work → Bool
+is_endless (Do (Forever at body)) = true
+is_endless w = false
