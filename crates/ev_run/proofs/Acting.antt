@@ -1,5 +1,5 @@
 -- Events, as the code takes them off a stack.
-use Rattle.std.proofs.Common.{◌≡◌, Result, Ok, Err, MatchResult, IfOk, option_map, ℕ, Bool, true, false, List, [], ◌∷◌, slice_get, Option, Some, None, refl}
+use Rattle.std.proofs.Common.{◌≡◌, Result, Ok, Err, MatchResult, IfOk, option_map, ℕ, Bool, true, false, List, [], ◌∷◌, slice_get, length, Option, Some, None, is_some, refl, ap, ◌∙◌, ◌≤◌, arith}
 use Rattle.el_design.specs.Plain.{Expr, Lvalue, FlatTask, Statement, Null, Skip, Seq, Block, Assign, If, Case, Arm, For, While, Repeat, Forever, Wait, Enable, Disable, Host, Flat}
 use Rattle.el_design.specs.View.{seq_of}
 use Rattle.xt_base.specs.declared.refusals.Place.{Place}
@@ -11,7 +11,10 @@ use Rattle.ev_run.specs.declared.operators.Trouble.{Trouble}
 use Rattle.ev_run.specs.declared.processes.Acted as code
 use Rattle.ev_run.specs.declared.processes.Process as processes
 use Rattle.xt_bits.specs.Stimulus.{Reply}
-use Rattle.el_design.specs.Act.{Acted, Process, assigned, enabled, replied, act_do, act_top}
+use Rattle.el_design.specs.Act.{Acted, Process, assigned, enabled, replied, act_do, act_top, act}
+use Rattle.el_design.specs.Queue.{can_run_at, can_run}
+use Rattle.el_design.proofs.Ready.{processes_run}
+use Rattle.std.proofs.lemmas.Bool.{false≢true}
 
 pub rest_acts : (d : Flat) (s : Scene) (p : Process) (k : List Work) (ss : List Statement) → act_do d s p k (seq_of ss) ≡ None
 rest_acts d s p k [] = refl
@@ -62,3 +65,26 @@ pub done_is : (r : Result code.Acted Trouble) (q : Result (Option code.Acted) Tr
     → MatchResult r (λ a. q ≡ Ok (Some a)) (λ e. q ≡ Err e) → IfOk r (λ a. Some (acted_seen p a) ≡ x) → IfOk q (λ a. option_map (acted_seen p) a ≡ x)
 done_is (Ok a) q p x h k = rw h k
 done_is (Err e) q p x h k = rw h tt
+
+-- ---- processes that have an event
+
+is_none : {X : Type 0} (o : Option X) → is_some o ≡ false → o ≡ None
+is_none None e = refl
+is_none (Some x) e = cc
+
+-- a process that can't run has no event
+pub no_event : (d : Flat) (s : Scene) (p : Process) → can_run p ≡ false → act d s p ≡ None
+no_event d s p e = is_none (act d s p) ((processes_run d s p).0 ∙ e)
+
+-- and one that can has one
+pub has_event : (d : Flat) (s : Scene) (p : Process) (f : code.Acted → Acted) (a : Option code.Acted) → can_run p ≡ true → option_map f a ≡ act d s p → a ≡ None → ⊥
+has_event d s p f (Some x) e h n = cc
+has_event d s p f None e h n = false≢true (ap is_some h ∙ (processes_run d s p).0 ∙ e)
+
+-- which stands on its stack
+pub has_work : (p : Process) → can_run p ≡ true → 1 ≤ length p.stack
+has_work p e = go p.stack p.replies e
+  where
+    go : (k : List Work) (rs : List Reply) → can_run_at k rs ≡ true → 1 ≤ length k
+    go [] rs h = cc
+    go (w ∷ k) rs h = omega arith

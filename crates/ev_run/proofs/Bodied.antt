@@ -24,8 +24,7 @@ use Rattle.el_design.specs.declared.statements.Stmt.{Stmt}
 use Rattle.el_design.proofs.Equations as equations
 use Rattle.ev_run.specs.Fitting.{FitsStore, FitsScene, IsDeclared, IsWellMade, AreWellMade, FitsTarget, FitsOutput, IsSoundText, IsVariableOf, FitsLoop}
 use Rattle.ev_run.proofs.Outputs.{tail_is}
-use Rattle.ev_run.proofs.Calling.{labels_are}
-use Rattle.ev_run.proofs.Widths.{all_left, all_right}
+use Rattle.ev_run.proofs.Doing.{labels_here, labels_after}
 use Rattle.ev_run.proofs.Keeping.{width_is, variable_wide, in_store, target_total, writes_fit, assigned_fits, entered_fits, body_self, body_seq, body_block, body_if, body_case, body_arm, body_for, body_repeat, body_fits}
 use Rattle.ev_run.proofs.Statements.{assign_made, if_made, case_made, for_made, for_variable, repeat_made, output_target, variable_declared, body_scene_fits, function_body, function_formals, function_result}
 
@@ -131,11 +130,7 @@ Chooses d store on arms other =
 
 module _ (d : Flat) (store : Store) (on : Expr) (arms : List Arm) (other : Statement) where
   pub labels_fit : (arm : Arm) (labels : List TExpr) → 1 ≤ length arms → arm ≡ get_or arms 0 arm → labels ≡ arm.labels → Chooses d store on arms other → AreWellMade d (map expr_of labels)
-  labels_fit arm labels n e l f = go arms n e f.3
-    where
-      go : (xs : List Arm) → 1 ≤ length xs → arm ≡ get_or xs 0 arm → AreWellMade d (labels_in (arms_of on (map arm_of xs) other)) → AreWellMade d (map expr_of labels)
-      go [] n e k = absurd (omega (arith, n))
-      go (a ∷ xs) n e k = subst (AreWellMade d) (sym (labels_are a arm labels e l)) (all_left (IsWellMade d) (arm_of a).labels (labels_in (arms_of on (map arm_of xs) other)) k)
+  labels_fit arm labels n e l f = labels_here d on arms arm labels other n e l f.3
 
   pub arm_fits : (arm : Arm) → 1 ≤ length arms → arm ≡ get_or arms 0 arm → Chooses d store on arms other → Runs d store (statement_of arm.body)
   arm_fits arm n e f = (f.0, f.1, go arms n e f.4)
@@ -154,15 +149,11 @@ module _ (d : Flat) (store : Store) (on : Expr) (arms : List Arm) (other : State
       go (a ∷ xs) n k = absurd (omega (arith, n))
 
   pub others_fit : 1 ≤ length arms → Chooses d store on arms other → Chooses d store on (take (length arms - 1) (drop 1 arms)) other
-  others_fit n f = let k = go arms n f.3 f.4 in (f.0, f.1, f.2, k.0, k.1)
+  others_fit n f = (f.0, f.1, f.2, labels_after d on arms other n f.3, go arms n f.4)
     where
-      go : (xs : List Arm) → 1 ≤ length xs → AreWellMade d (labels_in (arms_of on (map arm_of xs) other)) → IsSoundText d (arms_of on (map arm_of xs) other)
-          → AreWellMade d (labels_in (arms_of on (map arm_of (take (length xs - 1) (drop 1 xs))) other)) × IsSoundText d (arms_of on (map arm_of (take (length xs - 1) (drop 1 xs))) other)
-      go [] n k l = absurd (omega (arith, n))
-      go (a ∷ xs) n k l = (
-        subst (λ y. AreWellMade d (labels_in (arms_of on (map arm_of y) other))) (sym (tail_is a xs)) (all_right (IsWellMade d) (arm_of a).labels (labels_in (arms_of on (map arm_of xs) other)) k),
-        subst (λ y. IsSoundText d (arms_of on (map arm_of y) other)) (sym (tail_is a xs)) (body_arm d on (arm_of a).labels (arm_of a).body (arms_of on (map arm_of xs) other) l).1,
-      )
+      go : (xs : List Arm) → 1 ≤ length xs → IsSoundText d (arms_of on (map arm_of xs) other) → IsSoundText d (arms_of on (map arm_of (take (length xs - 1) (drop 1 xs))) other)
+      go [] n l = absurd (omega (arith, n))
+      go (a ∷ xs) n l = subst (λ y. IsSoundText d (arms_of on (map arm_of y) other)) (sym (tail_is a xs)) (body_arm d on (arm_of a).labels (arm_of a).body (arms_of on (map arm_of xs) other) l).1
 
 -- ---- assignments
 

@@ -12,11 +12,11 @@ use Rattle.el_design.specs.Store.{Store, Write, spot_variable, put_all}
 use Rattle.el_design.specs.Value.{Scene}
 use Rattle.el_design.specs.Assign.{copies_to}
 use Rattle.ev_run.specs.Fitting.{FitsScene, FitsStore, FitsOutput, FitsWrite, IsDeclared, IsWellMade}
-use Rattle.ev_run.proofs.Widths.{all_left, all_right}
+use Rattle.ev_run.proofs.Widths.{all_at, all_left, all_right}
 use Rattle.ev_run.proofs.Keeping.{copies_fit, put_all_fits, in_store}
 use Rattle.ev_run.proofs.Steps.{zipped}
 use Rattle.ev_run.proofs.Outputs.{tail_is}
-use Rattle.ev_run.proofs.Statements.{all_at, enable_made, host_made}
+use Rattle.ev_run.proofs.Statements.{enable_made, host_made}
 
 -- ---- pairs of two lists, as the code takes them
 

@@ -10,18 +10,14 @@ use Rattle.el_design.specs.Assign.{spots}
 use Rattle.el_design.specs.Sound.{IsWidth, IsSound}
 use Rattle.ev_run.specs.Simulated.{spot_seen}
 use Rattle.ev_run.specs.declared.writes.Spot as code
-use Rattle.ev_run.specs.Fitting.{FitsScene, FitsTarget, FitsOutput}
+use Rattle.ev_run.specs.Fitting.{FitsScene, FitsOutput}
 use Rattle.ev_run.proofs.Storing.{AreCut}
-use Rattle.ev_run.proofs.Keeping.{target_total, target_of_output}
+use Rattle.ev_run.proofs.Keeping.{target_total}
 
 abbrev pub IsReady : Flat → Scene → Lvalue → Type 0
 IsReady d s t = IsSound d × FitsScene d s × FitsOutput d t
 
--- an output is a target
-pub output_ready : (d : Flat) (s : Scene) (t : Lvalue) → IsReady d s t → IsSound d × FitsScene d s × FitsTarget d t
-output_ready d s t h = (h.0, h.1, (target_of_output d t h.2.0, h.2.1))
-
--- and what is a target's cuts a value up
+-- what an output's spots are cuts a value up
 pub spots_cut : (d : Flat) (s : Scene) (t : Lvalue) (ps list : List code.Spot) → list ≡ ps → map spot_seen ps ≡ spots d s t → IsReady d s t → AreCut (map spot_seen list)
 spots_cut d s t ps list l e h = subst AreCut (sym (ap (map spot_seen) l ∙ e)) (target_total d h.0 s t h.2.0)
 

@@ -1,39 +1,34 @@
 -- Why the events of statements and work fail, and the arms of a `case`.
 use Rattle.std.proofs.Common.{◌≡◌, ◌≤◌, ◌<◌, ℕ, List, [], ◌∷◌, All, map, length, get_or, take, drop, ◌-◌, ◌+◌, false, if◌then◌else◌, Option, Some, Result, Ok, Err, MatchResult, IfErr, refl, sym, ◌∙◌, ap, subst, arith}
-use Rattle.std.proofs.lemmas.List.Elements.{All-head, All-weaker}
+use Rattle.std.proofs.lemmas.List.Elements.{All-head}
 use Rattle.el_design.specs.declared.expressions.TExpr.{TExpr}
 use Rattle.el_design.specs.declared.statements.Arm as code
 use Rattle.el_design.specs.declared.statements.Stmt.{Stmt}
 use Rattle.el_design.specs.declared.statements.Stmt.TheOpen.{Stmt-F}
 use Rattle.el_design.specs.declared.statements.Stmt.TheFolds.{fold-roll-Stmt}
 use Rattle.el_design.specs.declared.statements.Stmt.TheViews.{out-Stmt, roll-out-Stmt}
-use Rattle.el_design.specs.Plain.{Expr, Lvalue, Statement, Flat}
+use Rattle.el_design.specs.Plain.{Expr, Statement, Flat}
 use Rattle.el_design.specs.Names.{labels_in}
 use Rattle.el_design.specs.Value.{Scene}
 use Rattle.el_design.specs.Assign.{has_label, arm_chosen}
 use Rattle.el_design.specs.View.{expr_of, stmt_step, arm_step, statement_of, PlainArm, arm_of, arms_of}
-use Rattle.el_design.proofs.Equations as equations
-use Rattle.ev_run.specs.Fitting.{Fails, FitsOutput, IsDeclared, IsWellMade, AreWellMade, IsVariableOf, FitsWork}
+use Rattle.ev_run.specs.Fitting.{Fails, IsWellMade, AreWellMade, FitsWork}
 use Rattle.ev_run.specs.Simulated.{work_seen}
 use Rattle.ev_run.specs.declared.operators.Trouble.{Trouble}
 use Rattle.ev_run.specs.declared.processes.Acted as acteds
 use Rattle.ev_run.specs.declared.stacks.Work as stacked
 use Rattle.ev_run.proofs.Widths.{all_left, all_right}
-use Rattle.ev_run.proofs.Failing.{fails_less}
+use Rattle.ev_run.proofs.Stopping.{fails_by}
+use Rattle.ev_run.proofs.Calling.{labels_are}
 use Rattle.ev_run.proofs.Outputs.{tail_is}
-use Rattle.ev_run.proofs.Statements.{variable_declared}
 
 -- an event that is done, or why it fails
 pub done_fails : (r : Result acteds.Acted Trouble) (q : Result (Option acteds.Acted) Trouble) (A B : Type 0) → (B → A)
     → MatchResult r (λ a. q ≡ Ok (Some a)) (λ e. q ≡ Err e) → IfErr r (λ e. Fails e A) → IfErr q (λ e. Fails e B)
 done_fails (Ok a) q A B f e h = rw e tt
-done_fails (Err x) q A B f e h = rw e (fails_less x A B f h)
+done_fails (Err x) q A B f e h = rw e (fails_by A B x f h)
 
 -- ---- work
-
-pub returned_fit : (d : Flat) (outs : List (ℕ × Lvalue)) → All (λ x. IsVariableOf d x.0 × FitsOutput d x.1) outs → All (λ x. IsDeclared d x.0 × FitsOutput d x.1) outs
-returned_fit d outs h =
-    All-weaker (λ x. IsVariableOf d x.0 × FitsOutput d x.1) (λ x. IsDeclared d x.0 × FitsOutput d x.1) (λ x f. (variable_declared d x.0 f.0, f.1)) outs h
 
 pub top_fits : (d : Flat) (ws : List stacked.Work) (top : stacked.Work) (n : ℕ) → n + 1 ≡ length ws → top ≡ get_or ws 0 top → All (FitsWork d) (map work_seen ws) → FitsWork d (work_seen top)
 top_fits d [] top n l e h = absurd (omega (arith, l))
@@ -63,9 +58,6 @@ other_is o = (_, ap statement_of (sym (roll-out-Stmt o)) ∙ fold-roll-Stmt Stat
 pub other_chosen : (d : Flat) (s : Scene) (on : Expr) (arms : List code.Arm) (o : Stmt) → length arms < 1 → statement_of o ≡ arm_chosen d s (arms_of on (map arm_of arms) (statement_of o))
 other_chosen d s on [] o h = let e = other_is o in e.1 ∙ sym (ap (arm_chosen d s) e.1 ∙ no_arm d s e.0)
 other_chosen d s on (a ∷ arms) o h = absurd (omega (arith, h))
-
-labels_are : (a arm : code.Arm) (labels : List TExpr) → arm ≡ a → labels ≡ arm.labels → map expr_of labels ≡ (arm_of a).labels
-labels_are a arm labels e l = ap (map expr_of) (l ∙ ap (λ x. x.labels) e) ∙ sym (ap (λ x. x.labels) (equations.arm_is a))
 
 pub arm_passed : (d : Flat) (s : Scene) (on : Expr) (arms : List code.Arm) (arm : code.Arm) (labels : List TExpr) (other : Statement)
     → 1 ≤ length arms → arm ≡ get_or arms 0 arm → labels ≡ arm.labels → has_label d s on (map expr_of labels) ≡ false

@@ -6,6 +6,7 @@ use Rattle.xt_bits.specs.Word.{Word}
 use Rattle.xt_bits.specs.Operators.{concat_of}
 use Rattle.el_design.specs.Value.{copies}
 use Rattle.ev_run.proofs.Outputs.{tail_is}
+use Rattle.ev_run.proofs.Widths.{copies_more}
 
 abbrev widths : List Word → ℕ
 widths xs = sum (map (λ x. x.width) xs)
@@ -32,14 +33,10 @@ part_fits (x ∷ xs) first y all i l f n e g h =
     let w : first.width ≡ x.width = ap (λ z. z.width) f in
     omega (arith, k, w, h.1, more_width x xs)
 
-copies_width : (n : ℕ) (x : Word) → (copies n x).width ≡ suc n * x.width
-copies_width zero x = omega arith
-copies_width (suc n) x = let h = copies_width n x in omega (arith, h)
-
 -- one copy more fits where all do
 pub copy_fits : (n i : ℕ) (x all : Word) → i < n - 1 → all ≡ copies i x → (1 ≤ n) × (n * x.width ≤ MAX_WIDTH) → all.width + x.width ≤ MAX_WIDTH
 copy_fits n i x all l e h =
-    let a = ap (λ w. w.width) e ∙ copies_width i x in
+    let a = ap (λ w. w.width) e ∙ copies_more i x in
     let l2 : suc (suc i) ≤ n = omega (arith, l) in
     let b = mul-le-mul_right x.width l2 in
     omega (arith, a, b, h.1)

@@ -1,8 +1,8 @@
 -- What is stored keeps to the design: writes fit, and stores fit after them.
-use Rattle.std.proofs.Common.{◌≡◌, ◌⊎◌, inl, inr, ℕ, zero, suc, ◌+◌, ◌≤◌, ◌<◌, ◌^◌, ◌==◌, max, Bool, true, false, if◌then◌else◌, List, [], ◌∷◌, ◌++◌, Option, Some, None, All, map, fold, zip, set, replicate, slice_get, get_or, length, option_map, unwrap_or, ℤ, refl, sym, ◌∙◌, ap, ap₂, subst, arith, zero-add, add-zero, add_assoc, length-set}
+use Rattle.std.proofs.Common.{◌≡◌, ◌⊎◌, inl, inr, ℕ, zero, suc, ◌+◌, ◌≤◌, ◌<◌, ◌^◌, ◌==◌, max, Bool, true, false, if◌then◌else◌, List, [], ◌∷◌, ◌++◌, Option, Some, None, All, map, fold, zip, set, replicate, slice_get, get_or, length, option_map, unwrap_or, ℤ, refl, sym, ◌∙◌, ap, ap₂, subst, arith, zero-add, add-zero, add_assoc}
 use Rattle.std.proofs.lemmas.List.Elements.{All-nil, All-cons, All-head, All-tail, All-append, All-weaker, All-replicate}
 use Rattle.std.proofs.lemmas.Bool.Decides.{eqb_tells}
-use Rattle.std.proofs.lemmas.Option.{get_or_from_slice_get, slice_get_within, slice_get-map}
+use Rattle.std.proofs.lemmas.Option.{get_or_from_slice_get, same_Some, slice_get_within, slice_get-map}
 use Rattle.xt_base.specs.declared.TheConstants.{MAX_WIDTH}
 use Rattle.xt_base.specs.declared.refusals.Place.{Place}
 use Rattle.xt_bits.specs.Word.{Word}
@@ -20,9 +20,6 @@ use Rattle.ev_run.specs.Fitting.{FitsStore, IsDeclared, FitsSpot, FitsWrite, IsS
 use Rattle.el_design.proofs.OrderPlaces.{set_got, set_other}
 
 -- ---- lists and variables
-
-some_is : {X : Type 0} (a b : X) → Some a ≡ Some b → a ≡ b
-some_is a b e = cc
 
 one_all : {X : Type 0} (P : X → Type 0) (x : X) → P x → All P (x ∷ [])
 one_all P x p = All-cons P x [] p (All-nil P)
@@ -68,7 +65,7 @@ set_fits d store v words h f u var is = go (eqb_tells u v) (f u var is)
 
 written_width : (d : Flat) (p : Spot) (bits : Word) (words : List Word) (var : Var) → slice_get d.vars (spot_variable p) ≡ Some var → FitsSpot d p → bits.width ≡ spot_width p → All (λ x. x.width ≡ var.width) words
     → spot_place p < length words → (written p bits (get_or words (spot_place p) bits)).width ≡ var.width
-written_width d (Whole v place n) bits words var is s e all lt = e ∙ sym s.2 ∙ ap (λ x. x.width) (some_is s.0 var (sym s.1 ∙ is))
+written_width d (Whole v place n) bits words var is s e all lt = e ∙ sym s.2 ∙ ap (λ x. x.width) (same_Some s.0 var (sym s.1 ∙ is))
 written_width d (Within v place low n) bits words var is s e all lt = all place bits lt
 
 pub put_write_fits : (d : Flat) (store : Store) (w : Write) → FitsStore d store → FitsWrite d w → FitsStore d (put_write store w)
@@ -89,9 +86,6 @@ spot_declared d (Within v place low w) s = s
 
 pub in_store : (d : Flat) (store : Store) (ws : List Write) → FitsStore d store → All (FitsWrite d) ws → All (λ w. spot_variable w.spot < length store) ws
 in_store d store ws f h = All-weaker (FitsWrite d) (λ w. spot_variable w.spot < length store) (λ w k. variable_in d store (spot_variable w.spot) f (spot_declared d w.spot k.0)) ws h
-
-pub same_length : (store : Store) (w : Write) → length (put_write store w) ≡ length store
-same_length store w = length-set store (spot_variable w.spot) _
 
 -- ---- spots of targets
 

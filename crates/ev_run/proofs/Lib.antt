@@ -8,13 +8,13 @@ pub mod Bodied
 pub mod ByKind
 pub mod Entering
 pub mod Fitted
-pub mod Failing
 pub mod Height
 pub mod Keeping
 pub mod Waking
 pub mod Widths
 pub mod Statements
 pub mod Netting
+pub mod Sweeping
 pub mod Queueing
 pub mod Playing
 pub mod Taking

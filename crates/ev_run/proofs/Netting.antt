@@ -1,21 +1,21 @@
 -- Nets: the value of a pin, and where all nets have their values.
 use Rattle.ev_run.specs.declared.operators.Trouble.{Trouble}
-use Rattle.std.proofs.Common.{◌≢◌, eqb-true, unwrap_or, ◌-◌, map, take, drop, ◌≤◌, All, ◌≡◌, ℕ, zero, suc, ◌+◌, ◌==◌, Result, IfOk, Bool, true, false, cond, if◌then◌else◌, List, [], ◌∷◌, length, slice_get, get_or, Option, Some, None, option_map, refl, sym, ◌∙◌, ap, add-one, subst, arith}
+use Rattle.std.proofs.Common.{eqb-true, unwrap_or, ◌-◌, map, take, drop, ◌≤◌, ◌≡◌, ℕ, zero, suc, ◌+◌, ◌==◌, Result, IfOk, Bool, true, false, cond, if◌then◌else◌, List, [], ◌∷◌, length, slice_get, get_or, Option, Some, None, option_map, refl, sym, ◌∙◌, ap, add-one, zero-add, zip, subst, arith}
 use Rattle.std.specs.List.{position, position_from}
-use Rattle.std.proofs.lemmas.List.{take_all}
-use borrow.Author.Count.{below_more}
-use Rattle.std.proofs.lemmas.Option.{get_or_from_slice_get, slice_get_within}
+use Rattle.std.proofs.lemmas.List.{take_all, length-map}
+use Rattle.std.proofs.lemmas.Option.{slice_get-map, same_Some}
+use Rattle.ev_run.proofs.Widths.{all_at}
 use Rattle.el_design.specs.Sound.{IsSound, IsFlatNet, IsWidth}
-use Rattle.ev_run.specs.Fitting.{FitNets, FitsStore, FitsScene, swept, IsUnsettled}
+use Rattle.ev_run.specs.Fitting.{FitNets, FitsScene}
 use Rattle.el_design.specs.Plain.{Expr}
 use Rattle.std.proofs.lemmas.Iterator.Adapters.{position_from-zero}
 use Rattle.xt_bits.specs.Word.{Word, word}
 use Rattle.el_design.specs.Plain.{FlatNet, Flat}
 use Rattle.el_design.specs.Store.{Store}
 use Rattle.el_design.specs.Value.{Scene, value}
-use Rattle.el_design.specs.Queue.{scene_of, pin_value, net_aim}
+use Rattle.el_design.specs.Queue.{scene_of, pin_value, net_aim, numbers_from, numbers}
 use Rattle.el_design.specs.Run.{net_width, IsRow, IsSettled}
-use Rattle.ev_run.specs.Simulated.{pin_in, aims_of}
+use Rattle.ev_run.specs.Simulated.{all_aims}
 
 shift : (t : ℕ → Bool) (ks : List ℕ) (i j : ℕ) → j ≡ i + 1 → position_from t j ks ≡ option_map suc (position_from t i ks)
 shift t [] i j e = refl
@@ -42,6 +42,12 @@ looked_is : (o : Option ℕ) (row : List Word) (w : ℕ) → (elim o [ None ↦ 
 looked_is None row w = refl
 looked_is (Some i) row w = refl
 
+-- the value of a net without an expression, by the pins' nets and their values
+abbrev pin_in : List ℕ → List Word → ℕ → ℕ → Word
+pin_in [] row n w = word w 0
+pin_in (k ∷ ks) [] n w = word w 0
+pin_in (k ∷ ks) (x ∷ row) n w = if k == n then x else pin_in ks row n w
+
 pins : (ks : List ℕ) (row : List Word) (n w : ℕ) → looked (position_from (λ k. k == n) 0 ks) row w ≡ pin_in ks row n w
 pins [] row n w = refl
 pins (k ∷ ks) [] n w = looked_nil (position_from (λ m. m == n) 0 (k ∷ ks)) w
@@ -52,43 +58,19 @@ pins (k ∷ ks) (x ∷ row) n w = go (k == n) (pins ks row n w)
     go true h = refl
     go false h = ap (λ o. looked o (x ∷ row) w) (shift (λ m. m == n) ks 0 (0 + 1) refl) ∙ looked_next (position_from (λ m. m == n) 0 ks) x row w ∙ h
 
-pub pin_is : (d : Flat) (row : List Word) (n w : ℕ) → pin_value d row n w ≡ pin_in d.inputs row n w
+pin_is : (d : Flat) (row : List Word) (n w : ℕ) → pin_value d row n w ≡ pin_in d.inputs row n w
 pin_is d row n w =
     looked_is (position (λ k. k == n) d.inputs) row w ∙ ap (λ o. looked o row w) (position_from-zero (λ k. k == n) d.inputs) ∙ pins d.inputs row n w
 
-aims_length : (d : Flat) (row : List Word) (s : Scene) (m : ℕ) (ns : List FlatNet) → length (aims_of d row s m ns) ≡ length ns
-aims_length d row s m [] = refl
-aims_length d row s m (x ∷ ns) = ap suc (aims_length d row s (suc m) ns)
-
-some_is : {X : Type 0} (a b : X) → Some a ≡ Some b → a ≡ b
-some_is a b e = cc
-
-aims_at : (d : Flat) (row : List Word) (s : Scene) (m : ℕ) (ns : List FlatNet) (n : ℕ) (net : FlatNet) (k : ℕ) → k ≡ m + n
-    → slice_get ns n ≡ Some net → slice_get (aims_of d row s m ns) n ≡ Some (net_aim d row s k net)
-aims_at d row s m [] n net k is e = cc
-aims_at d row s m (x ∷ ns) zero net k is e =
-    let same : m ≡ k = omega arith in
-    ap (λ y. Some (net_aim d row s m y)) (some_is x net e) ∙ ap (λ j. Some (net_aim d row s j net)) same
-aims_at d row s m (x ∷ ns) (suc n) net k is e = aims_at d row s (suc m) ns n net k (omega arith) e
-
-pub aims_settle : (d : Flat) (row : List Word) (store : Store) (nets : List Word) → nets ≡ aims_of d row (scene_of d store nets) 0 d.nets → IsSettled d row store nets
-aims_settle d row store nets e = record {
-  size = ap length e ∙ aims_length d row (scene_of d store nets) 0 d.nets;
-  each = λ n net h. ap (λ xs. slice_get xs n) e ∙ aims_at d row (scene_of d store nets) 0 d.nets n net n (omega arith) h;
-}
-
 -- a net without an expression takes its pin's value
-pub aim_pin : (r : Result Word Trouble) (d : Flat) (row : List Word) (s : Scene) (n : ℕ) (net : FlatNet) (pins_now : List ℕ) → net.value ≡ None → pins_now ≡ d.inputs
-    → IfOk r (λ x. x ≡ pin_in pins_now row n net.width) → IfOk r (λ x. x ≡ net_aim d row s n net)
-aim_pin r d row s n net ks e p h = subst (λ y. IfOk r (λ x. x ≡ y)) (ap (λ is. pin_in is row n net.width) p ∙ sym (pin_is d row n net.width) ∙ sym (ap (λ o. elim o [ None ↦ pin_value d row n net.width | Some x ↦ word net.width (value d s x).value ]) e)) h
+pub aim_pin : (r : Result Word Trouble) (d : Flat) (row : List Word) (s : Scene) (n : ℕ) (net : FlatNet) → net.value ≡ None
+    → IfOk r (λ x. x ≡ pin_value d row n net.width) → IfOk r (λ x. x ≡ net_aim d row s n net)
+aim_pin r d row s n net e h = subst (λ y. IfOk r (λ x. x ≡ y)) (sym (ap (λ o. elim o [ None ↦ pin_value d row n net.width | Some x ↦ word net.width (value d s x).value ]) e)) h
 
 -- ---- what fits
 
-pub all_at : {X : Type 0} (P : X → Type 0) (xs : List X) (i : ℕ) (x : X) → All P xs → slice_get xs i ≡ Some x → P x
-all_at P xs i x all e = subst P (get_or_from_slice_get xs i x x e) (all i x (slice_get_within xs i x e))
-
 pub net_wide : (d : Flat) (at : ℕ) (net : FlatNet) → IsSound d → slice_get d.nets at ≡ Some net → IsWidth net.width
-net_wide d at net sound e = (all_at (IsFlatNet d) d.nets at net sound.nets e).wide
+net_wide d at net sound e = (all_at (IsFlatNet d) d.nets at net e sound.nets).wide
 
 -- ---- what is left of a list from a place on
 
@@ -111,7 +93,7 @@ pub others_left : {X Y : Type 0} (f : Y → X) (xs : List X) (ys : List Y) (at :
 others_left f xs [] at h is = absurd (omega (arith, h))
 others_left f xs (z ∷ ys) at h is = ap (map f) (take_all (length (z ∷ ys) - 1) ys (omega arith)) ∙ drop_more xs at (f z) (map f ys) is ∙ ap (λ n. drop n xs) (sym (add-one at))
 
--- ---- swept
+-- ---- widths
 
 if_wide : (b : Bool) (x y : Word) (w : ℕ) → (b ≡ true → x.width ≡ w) → y.width ≡ w → (if b then x else y).width ≡ w
 if_wide true x y w f h = f refl
@@ -132,36 +114,41 @@ valued_wide : (o : Option Expr) (p : Word) (f : Expr → Word) (w : ℕ) → p.w
 valued_wide None p f w h g = h
 valued_wide (Some x) p f w h g = g x
 
-aim_wide : (d : Flat) (row : List Word) (s : Scene) (n : ℕ) (net : FlatNet) → IsRow d row → slice_get d.nets n ≡ Some net → (net_aim d row s n net).width ≡ net.width
+pub aim_wide : (d : Flat) (row : List Word) (s : Scene) (n : ℕ) (net : FlatNet) → IsRow d row → slice_get d.nets n ≡ Some net → (net_aim d row s n net).width ≡ net.width
 aim_wide d row s n net fits e =
     let there : net_width d n ≡ net.width = ap (λ o. unwrap_or (option_map (λ x. x.width) o) 0) e in
     valued_wide net.value (pin_value d row n net.width) (λ x. word net.width (value d s x).value) net.width
     (ap (λ x. x.width) (pin_is d row n net.width) ∙ pin_wide d d.inputs row n net.width fits.0 there) (λ x. refl)
 
-pub aims_fit : (d : Flat) (row : List Word) (s : Scene) → IsRow d row → FitNets d (aims_of d row s 0 d.nets)
-aims_fit d row s fits n net x e got =
-    ap (λ y. y.width) (some_is x (net_aim d row s n net) (sym got ∙ aims_at d row s 0 d.nets n net n (omega arith) e)) ∙ aim_wide d row s n net fits e
+-- ---- all nets
 
-pub rounds_fit : (d : Flat) (row : List Word) (store : Store) (n : ℕ) → IsRow d row → FitNets d (swept d row store n)
-rounds_fit d row store zero fits = λ k net x e got. cc
-rounds_fit d row store (suc n) fits = aims_fit d row (scene_of d store (swept d row store n)) fits
+numbered : {X : Type 0} (xs : List X) (i n : ℕ) → slice_get (zip (numbers_from i (length xs)) xs) n ≡ option_map (λ x. (i + n, x)) (slice_get xs n)
+numbered [] i n = refl
+numbered (x ∷ xs) i zero = ap (λ m. Some (m, x)) (let same : i ≡ i + 0 = omega arith in same)
+numbered (x ∷ xs) i (suc n) = numbered xs (suc i) n ∙ ap (λ m. option_map (λ y. (m, y)) (slice_get xs n)) (let same : suc i + n ≡ i + suc n = omega arith in same)
 
--- a scene in which nets take their values in a round
-pub round_scene : (d : Flat) (row : List Word) (store : Store) (nets : List Word) (n : ℕ) → nets ≡ swept d row store n → IsSound d × IsRow d row × FitsStore d store
-    → IsSound d × FitsScene d (scene_of d store nets) × IsRow d row
-round_scene d row store nets n e g = let P : List Word → Type 0 = FitNets d in (g.0, (g.2, subst P (sym e) (rounds_fit d row store n g.1)), g.1)
+numbered_length : {X : Type 0} (xs : List X) (i : ℕ) → length (zip (numbers_from i (length xs)) xs) ≡ length xs
+numbered_length [] i = refl
+numbered_length (x ∷ xs) i = ap suc (numbered_length xs (suc i))
 
-pub at_scene : (d e : Flat) (s z : Scene) (row : List Word) (ns : List FlatNet) → e ≡ d → s ≡ z → ns ≡ d.nets → IsSound d × FitsScene d z × IsRow d row
-    → IsSound e × FitsScene e s × IsRow e row × (ns ≡ drop 0 e.nets)
-at_scene d e s z row ns p q n g = rw (p, q, n) (g.0, g.1, g.2, refl)
+module _ (d : Flat) (row : List Word) (s : Scene) where
+  pub aims_length : length (all_aims d row s) ≡ length d.nets
+  aims_length = length-map (zip (numbers (length d.nets)) d.nets) (λ x. net_aim d row s x.0 x.1) ∙ numbered_length d.nets 0
 
--- one round more
-pub round_after : (d : Flat) (row : List Word) (store : Store) (now next : List Word) (n : ℕ) → now ≡ swept d row store n → next ≡ aims_of d row (scene_of d store now) 0 d.nets
-    → next ≡ swept d row store (n + 1)
-round_after d row store now next n e h = h ∙ ap (λ xs. aims_of d row (scene_of d store xs) 0 d.nets) e ∙ ap (swept d row store) (sym (add-one n))
+  pub aims_at : (n : ℕ) (net : FlatNet) → slice_get d.nets n ≡ Some net → slice_get (all_aims d row s) n ≡ Some (net_aim d row s n net)
+  aims_at n net is =
+      slice_get-map (λ x. net_aim d row s x.0 x.1) (zip (numbers (length d.nets)) d.nets) n
+      ∙ ap (option_map (λ x. net_aim d row s x.0 x.1)) (numbered d.nets 0 n ∙ ap (option_map (λ x. (0 + n, x))) is)
+      ∙ ap (λ m. Some (net_aim d row s m net)) (zero-add n)
 
-pub round_differs : (d : Flat) (row : List Word) (store : Store) (now next : List Word) (n : ℕ) → now ≡ swept d row store n → next ≡ aims_of d row (scene_of d store now) 0 d.nets
-    → now ≢ next → IsUnsettled d row store n → IsUnsettled d row store (n + 1)
-round_differs d row store now next n e h differs before =
-    let after = h ∙ ap (λ xs. aims_of d row (scene_of d store xs) 0 d.nets) e in
-    below_more (λ m. swept d row store m ≢ swept d row store (suc m)) n before (λ same. differs (e ∙ same ∙ sym after))
+  pub aims_fit : IsRow d row → FitNets d (all_aims d row s)
+  aims_fit fits n net x e got = ap (λ y. y.width) (same_Some x (net_aim d row s n net) (sym got ∙ aims_at n net e)) ∙ aim_wide d row s n net fits e
+
+pub aims_settle : (d : Flat) (row : List Word) (store : Store) (nets : List Word) → nets ≡ all_aims d row (scene_of d store nets) → IsSettled d row store nets
+aims_settle d row store nets e = record {
+  size = ap length e ∙ aims_length d row (scene_of d store nets);
+  each = λ n net h. ap (λ xs. slice_get xs n) e ∙ aims_at d row (scene_of d store nets) n net h;
+}
+
+pub at_scene : (d e : Flat) (s z : Scene) (ns : List FlatNet) → e ≡ d → s ≡ z → ns ≡ d.nets → IsSound d × FitsScene d z → IsSound e × FitsScene e s × (ns ≡ drop 0 e.nets)
+at_scene d e s z ns p q n g = rw (p, q, n) (g.0, g.1, refl)

@@ -1,7 +1,7 @@
 -- Events one by one, and the edges of a run one after the other.
 use Rattle.std.proofs.Common.{zero, Bool, cond, None, map, filter, is_some, ◌≡◌, ◌≤◌, ◌-◌, inl, inr, Result, Ok, Err, IfOk, get_or, take as front, drop, ℕ, suc, ◌+◌, ◌/◌, ◌%◌, ◌^◌, true, false, List, [], ◌∷◌, ◌++◌, length, length-append, slice_get, Some, option_map, refl, sym, ◌∙◌, ap, subst, add-zero, add-one, arith}
 use Rattle.std.proofs.lemmas.List.{length-map, map-append, take_all}
-use Rattle.std.proofs.lemmas.Option.{slice_get-map}
+use Rattle.std.proofs.lemmas.Option.{same_Some, slice_get-map}
 use Rattle.std.specs.List.{list_any}
 use Rattle.xt_bits.specs.Word.{Word}
 use Rattle.xt_bits.specs.Trace.{Trace}
@@ -59,12 +59,9 @@ pub takes_any : (d : Flat) (C : ℕ → List Event → Event → Type 0) (k n : 
 takes_any d C k n c [] end t = t
 takes_any d C k n c (e ∷ es) end t = (tt, (t.1.0, t.1.1, takes_any d C (suc k) (suc n) t.1.0 es end t.1.2))
 
-some_is : {X : Type 0} (a b : X) → Some a ≡ Some b → a ≡ b
-some_is a b e = cc
-
 kept_step : {X : Type 0} (p : X → Bool) (y : X) (rest : List X) (n : ℕ) (x : X) (b : Bool) → p y ≡ b → slice_get (cond b (y ∷ rest) rest) n ≡ Some x
     → ((m : ℕ) → slice_get rest m ≡ Some x → p x ≡ true) → p x ≡ true
-kept_step p y rest zero x true e h f = ap p (sym (some_is y x h)) ∙ e
+kept_step p y rest zero x true e h f = ap p (sym (same_Some y x h)) ∙ e
 kept_step p y rest (suc n) x true e h f = f n h
 kept_step p y rest n x false e h f = f n h
 
@@ -88,7 +85,7 @@ played_fits d first begin now es t g = (g.0, takes_fit d g.0 (Picked first) 0 be
 
 -- so many events were taken
 pub played_on : (d : Flat) (first k : ℕ) (begin now : Config) (es : List code.Event) (n budget : ℕ) → Takes d (Picked first) k begin (events_seen es) now → length es ≡ n → n ≡ budget
-    → HasEvents d (Picked first) k begin budget
+    → HasEvents d first k begin budget
 played_on d first k begin now es n budget t e h = (events_seen es, now, t, length-map es event_seen ∙ e ∙ h)
 
 module _ (d : Flat) (C : ℕ → List Event → Event → Type 0) where

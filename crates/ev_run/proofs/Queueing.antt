@@ -13,7 +13,6 @@ use Rattle.el_design.specs.Stack.{Work, Do}
 use Rattle.xt_bits.specs.Word.{Word, word}
 use Rattle.el_design.specs.Plain.{FlatNet}
 use Rattle.el_design.specs.Value.{Scene}
-use Rattle.el_design.specs.Run.{IsRow}
 use Rattle.el_design.specs.Sound.{IsSound}
 use Rattle.ev_run.specs.Fitting.{FitsScene, FitsConfig}
 use Rattle.el_design.specs.Queue.{Config, Event, Run, Follow, Update, scene, net_aim, has_value, is_stuck, can_run, can_run_at, ready}
@@ -56,7 +55,11 @@ pub valued_is : (d : Flat) (c : Config) (n : ℕ) (net : FlatNet) (now aim : Wor
     → now ≡ get_or c.nets n (word net.width 0) → aim ≡ net_aim d c.row (scene d c) n net → nat_eq a b ≡ has_value d c n net
 valued_is d c n net now aim a b a_is b_is now_is aim_is = rw (a_is, b_is, now_is, aim_is)
 
+-- what expressions are evaluated in fits where the state does
+pub config_scene : (d : Flat) (c : Config) → IsSound d × FitsConfig d c → IsSound d × FitsScene d (scene d c)
+config_scene d c g = (g.0, (g.1.store, g.1.nets))
+
 -- what a net's value is taken in fits
-pub aimed : (d e : Flat) (c : Config) (s : Scene) (n : ℕ) (net : FlatNet) → e ≡ d → s ≡ scene d c → IsSound d × FitsConfig d c × (slice_get d.nets n ≡ Some net)
-    → IsSound e × FitsScene e s × IsRow e c.row × (slice_get e.nets n ≡ Some net)
-aimed d e c s n net p q g = rw (p, q) (g.0, (g.1.store, g.1.nets), g.1.row, g.2)
+pub aimed : (d e : Flat) (c : Config) (s : Scene) (n : ℕ) (net : FlatNet) → e ≡ d → s ≡ scene d c → IsSound d × FitsScene d (scene d c) × (slice_get d.nets n ≡ Some net)
+    → IsSound e × FitsScene e s × (slice_get e.nets n ≡ Some net)
+aimed d e c s n net p q g = rw (p, q) g

@@ -1,7 +1,6 @@
 -- What a sound design tells of its statements, functions and tasks: their expressions are well made, and their targets fit.
-use Rattle.std.proofs.Common.{◌≡◌, ℕ, zero, suc, Bool, List, [], ◌∷◌, ◌++◌, Option, Some, All, Contains, map, flat_map, slice_get, subst}
-use Rattle.std.proofs.lemmas.List.Elements.{All-nil, All-cons, All-head, All-tail, All-weaker, All-contains, Contains-append_left, Contains-append_right}
-use Rattle.std.proofs.lemmas.Option.{get_or_from_slice_get, slice_get_within}
+use Rattle.std.proofs.Common.{◌≡◌, ℕ, Bool, List, [], ◌∷◌, ◌++◌, Option, Some, All, Contains, map, flat_map, slice_get}
+use Rattle.std.proofs.lemmas.List.Elements.{All-nil, All-cons, All-head, All-tail, All-weaker, Contains-append_left, Contains-append_right}
 use Rattle.xt_base.specs.declared.refusals.Place.{Place}
 use Rattle.xt_bits.specs.Word.{Word}
 use Rattle.el_design.specs.Plain.{Expr, Lvalue, Statement, Assign, If, Case, Arm, For, While, Repeat, Enable, Host, FlatTask, FlatFunc, FlatProc, Flat}
@@ -11,25 +10,9 @@ use Rattle.el_design.specs.Names.{own_expressions, target_indexes, labels_in, li
 use Rattle.el_design.specs.Purity.{variables_of}
 use Rattle.el_design.specs.Sound.{IsPlainVariable, IsExpr, IsOutput, IsStatement, IsSound}
 use Rattle.ev_run.specs.Fitting.{FitsStore, FitsScene, IsDeclared, IsWellMade, AreWellMade, FitsTarget, FitsOutput, IsSoundText, IsVariableOf}
-use Rattle.el_design.proofs.OrderLists.{con_head, con_tail}
-use Rattle.ev_run.proofs.Widths.{all_left, all_right}
+use Rattle.el_design.proofs.OrderPlaces.{con_got, con_map}
+use Rattle.ev_run.proofs.Widths.{all_at, all_left, all_right}
 use Rattle.ev_run.proofs.Keeping.{target_of_output}
-
--- ---- lists
-
-pub got_is_in : {X : Type 0} (xs : List X) (i : ℕ) (x : X) → slice_get xs i ≡ Some x → Contains xs x
-got_is_in xs i x e = (i, slice_get_within xs i x e, get_or_from_slice_get xs i x x e)
-
-mapped_is_in : {X Y : Type 0} (f : X → Y) (xs : List X) (i : ℕ) (x : X) → slice_get xs i ≡ Some x → Contains (map f xs) (f x)
-mapped_is_in f [] i x e = cc
-mapped_is_in f (y ∷ xs) zero x e = subst (λ z. Contains (map f (y ∷ xs)) (f z)) (some_is y x e) (con_head (f y) (map f xs))
-  where
-    some_is : {Z : Type 0} (a b : Z) → Some a ≡ Some b → a ≡ b
-    some_is a b e = cc
-mapped_is_in f (y ∷ xs) (suc i) x e = con_tail (f y) (f x) (map f xs) (mapped_is_in f xs i x e)
-
-pub all_at : {X : Type 0} (P : X → Type 0) (xs : List X) (i : ℕ) (x : X) → slice_get xs i ≡ Some x → All P xs → P x
-all_at P xs i x e h = All-contains P xs x h (got_is_in xs i x e)
 
 module _ (d : Flat) where
   -- ---- expressions and targets
@@ -100,29 +83,29 @@ module _ (d : Flat) where
   body_scene_fits call store f = (f, λ n net x is got. cc)
 
   module _ (sound : IsSound d) where
-    pub process_body : (i : ℕ) (p : FlatProc) → slice_get d.procs i ≡ Some p → IsSoundText d p.body
-    process_body i p is x h =
+    pub process_body : (p : FlatProc) → Contains d.procs p → IsSoundText d p.body
+    process_body p is x h =
         sound.statements p.body x
         (Contains-append_left (map (λ p. p.body) d.procs ++ map (λ t. t.body) d.tasks) (map (λ f. f.body) d.funcs) p.body
-        (Contains-append_left (map (λ p. p.body) d.procs) (map (λ t. t.body) d.tasks) p.body (mapped_is_in (λ p. p.body) d.procs i p is)))
+        (Contains-append_left (map (λ p. p.body) d.procs) (map (λ t. t.body) d.tasks) p.body (con_map (λ p. p.body) d.procs p is)))
         h
 
     pub task_body : (i : ℕ) (t : FlatTask) → slice_get d.tasks i ≡ Some t → IsSoundText d t.body
     task_body i t is x h =
         sound.statements t.body x
         (Contains-append_left (map (λ p. p.body) d.procs ++ map (λ t. t.body) d.tasks) (map (λ f. f.body) d.funcs) t.body
-        (Contains-append_right (map (λ p. p.body) d.procs) (map (λ t. t.body) d.tasks) t.body (mapped_is_in (λ t. t.body) d.tasks i t is)))
+        (Contains-append_right (map (λ p. p.body) d.procs) (map (λ t. t.body) d.tasks) t.body (con_map (λ t. t.body) d.tasks t (con_got d.tasks i t is))))
         h
 
     pub function_body : (i : ℕ) (f : FlatFunc) → slice_get d.funcs i ≡ Some f → IsSoundText d f.body
     function_body i f is x h =
         sound.statements f.body x
-        (Contains-append_right (map (λ p. p.body) d.procs ++ map (λ t. t.body) d.tasks) (map (λ f. f.body) d.funcs) f.body (mapped_is_in (λ f. f.body) d.funcs i f is))
+        (Contains-append_right (map (λ p. p.body) d.procs ++ map (λ t. t.body) d.tasks) (map (λ f. f.body) d.funcs) f.body (con_map (λ f. f.body) d.funcs f (con_got d.funcs i f is)))
         h
 
     -- the variables of a function are declared
     function_variables : (i : ℕ) (f : FlatFunc) → slice_get d.funcs i ≡ Some f → All (IsDeclared d) (variables_of f)
-    function_variables i f is = All-weaker (λ v. (w : ℕ) × IsPlainVariable d v w) (IsDeclared d) (λ v h. let p : IsPlainVariable d v h.0 = h.1 in (p.var, p.is)) (variables_of f) (sound.funcs i f is).there
+    function_variables i f is = All-weaker (IsVariableOf d) (IsDeclared d) variable_declared (variables_of f) (sound.funcs i f is).there
 
     pub function_formals : (i : ℕ) (f : FlatFunc) → slice_get d.funcs i ≡ Some f → All (IsDeclared d) f.ins
     function_formals i f is = all_left (IsDeclared d) f.ins f.locals (all_left (IsDeclared d) (f.ins ++ f.locals) (f.result ∷ []) (function_variables i f is))
@@ -130,8 +113,8 @@ module _ (d : Flat) where
     pub function_result : (i : ℕ) (f : FlatFunc) → slice_get d.funcs i ≡ Some f → IsDeclared d f.result
     function_result i f is = All-head (IsDeclared d) f.result [] (all_right (IsDeclared d) (f.ins ++ f.locals) (f.result ∷ []) (function_variables i f is))
 
-    -- the formals of a task are plain variables
-    pub task_formals : (i : ℕ) (t : FlatTask) → slice_get d.tasks i ≡ Some t → All (IsVariableOf d) t.ins × All (IsVariableOf d) t.outs
+    -- and so are the formals of a task
+    pub task_formals : (i : ℕ) (t : FlatTask) → slice_get d.tasks i ≡ Some t → All (IsDeclared d) t.ins × All (IsDeclared d) t.outs
     task_formals i t is =
-        let k : All (IsVariableOf d) (t.ins ++ t.outs) = all_at (λ t. All (IsVariableOf d) (t.ins ++ t.outs)) d.tasks i t is sound.tasks in
-        (all_left (IsVariableOf d) t.ins t.outs k, all_right (IsVariableOf d) t.ins t.outs k)
+        let k : All (IsDeclared d) (t.ins ++ t.outs) = All-weaker (IsVariableOf d) (IsDeclared d) variable_declared (t.ins ++ t.outs) (all_at (λ t. All (IsVariableOf d) (t.ins ++ t.outs)) d.tasks i t is sound.tasks) in
+        (all_left (IsDeclared d) t.ins t.outs k, all_right (IsDeclared d) t.ins t.outs k)

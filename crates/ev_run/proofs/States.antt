@@ -1,29 +1,27 @@
 -- What fits a sound design goes on to fit it: the states of a run, from an edge's beginning on.
-use Rattle.std.proofs.Common.{◌≡◌, ◌⊎◌, inl, inr, ℕ, zero, suc, ◌==◌, Bool, true, false, if◌then◌else◌, List, [], ◌∷◌, map, zip, set, slice_get, All, Contains, Option, Some, None, IfSome, option_map, refl, sym, ◌∙◌, ap, subst, eqb-true, length-set}
-use Rattle.std.proofs.lemmas.List.Elements.{All-nil, All-head, All-tail, All-map, All-set, All-weaker, All-contains, All-contains_itself}
+use Rattle.std.proofs.Common.{◌≡◌, ◌⊎◌, inl, inr, ℕ, zero, suc, List, [], ◌∷◌, zip, set, slice_get, All, Contains, Option, Some, None, IfSome, option_map, refl, sym, ◌∙◌, ap, subst, length-set}
+use Rattle.std.proofs.lemmas.List.Elements.{All-nil, All-head, All-tail, All-map, All-set, All-weaker, All-contains_itself}
 use Rattle.xt_bits.specs.Stimulus.{Reply, Stimulus}
-use Rattle.xt_bits.specs.Word.{Word, word}
-use Rattle.el_design.specs.Plain.{Expr, FlatNet, FlatProc, Flat}
+use Rattle.xt_bits.specs.Word.{Word}
+use Rattle.el_design.specs.Plain.{FlatNet, FlatProc, Flat}
 use Rattle.el_design.specs.Sound.{IsSound}
 use Rattle.el_design.specs.Store.{Store, Write}
-use Rattle.el_design.specs.Value.{Scene, value}
 use Rattle.el_design.specs.Act.{Process, Acted, act}
-use Rattle.el_design.specs.Queue.{Config, Event, Run, Follow, Update, scene, scene_of, pin_value, net_aim, has_value, with_process, take_run, take_net, take_oldest, take_update, is_quiet, take}
-use Rattle.el_design.specs.Run.{net_width, IsRow, IsSettled, started, Starts, woken, Continues, Takes}
-use Rattle.el_design.proofs.OrderPlaces.{con_got, got_one}
-use Rattle.ev_run.specs.Simulated.{pin_in}
+use Rattle.el_design.specs.Queue.{Config, Event, Run, Follow, Update, scene, scene_of, net_aim, has_value, with_process, take_run, take_net, take_oldest, take_update, is_quiet, take}
+use Rattle.el_design.specs.Run.{IsRow, IsSettled, started, Starts, woken, Continues, Takes}
+use Rattle.el_design.proofs.OrderPlaces.{got_one}
 use Rattle.ev_run.specs.Fitting.{FitsStore, FitNets, FitsWrite, FitsProcess, FitsConfig}
-use Rattle.ev_run.proofs.Netting.{pin_is}
+use Rattle.ev_run.proofs.Netting.{aim_wide}
+use Rattle.ev_run.proofs.Widths.{all_at}
 use Rattle.ev_run.proofs.Keeping.{put_all_fits, start_fits}
 use Rattle.ev_run.proofs.Steps.{chosen, zipped, any_one, wake_fits, start_stack_fits, act_fits}
 
+-- ---- processes
+
+pub process_fits : (d : Flat) (c : Config) (i : ℕ) (p : Process) → FitsConfig d c → slice_get c.procs i ≡ Some p → FitsProcess d p
+process_fits d c i p f e = all_at (FitsProcess d) c.procs i p e f.procs
+
 -- ---- nets
-
-head_is : {X : Type 0} (x y : X) (xs ys : List X) → x ∷ xs ≡ y ∷ ys → x ≡ y
-head_is x y xs ys e = cc
-
-tail_is : {X : Type 0} (x y : X) (xs ys : List X) → x ∷ xs ≡ y ∷ ys → xs ≡ ys
-tail_is x y xs ys e = cc
 
 -- what stands at a place after one is set
 set_cases : {X : Type 0} (xs : List X) (n m : ℕ) (x y : X) → slice_get (set xs n x) m ≡ Some y → ((m ≡ n) × (y ≡ x)) ⊎ (slice_get xs m ≡ Some y)
@@ -38,26 +36,6 @@ set_cases (z ∷ xs) (suc n) (suc m) x y e = go (set_cases xs n m x y e)
     go (inr h) = inr h
 
 module _ (d : Flat) where
-  pin_wide : (ks : List ℕ) (row : List Word) (n w : ℕ) → map (λ v. v.width) row ≡ map (net_width d) ks → net_width d n ≡ w → (pin_in ks row n w).width ≡ w
-  pin_wide [] row n w e h = refl
-  pin_wide (k ∷ ks) [] n w e h = refl
-  pin_wide (k ∷ ks) (x ∷ row) n w e h = go (k == n) refl (pin_wide ks row n w (tail_is _ _ (map (λ v. v.width) row) (map (net_width d) ks) e) h)
-    where
-      go : (b : Bool) → (k == n) ≡ b → (pin_in ks row n w).width ≡ w → (if b then x else pin_in ks row n w).width ≡ w
-      go true is later = head_is _ _ (map (λ v. v.width) row) (map (net_width d) ks) e ∙ ap (net_width d) (eqb-true k n is) ∙ h
-      go false is later = later
-
-  -- a net takes a value that is as wide as it
-  aim_wide : (row : List Word) (s : Scene) (n : ℕ) (net : FlatNet) → IsRow d row → slice_get d.nets n ≡ Some net → (net_aim d row s n net).width ≡ net.width
-  aim_wide row s n net fits is = go net.value
-    where
-      wide : net_width d n ≡ net.width
-      wide = rw is refl
-
-      go : (o : Option Expr) → (let x : Word = elim o [ None ↦ pin_value d row n net.width | Some e ↦ word net.width (value d s e).value ] in x.width ≡ net.width)
-      go None = ap (λ x. x.width) (pin_is d row n net.width) ∙ pin_wide d.inputs row n net.width fits.0 wide
-      go (Some e) = refl
-
   set_fits : (nets : List Word) (n : ℕ) (net : FlatNet) (x : Word) → slice_get d.nets n ≡ Some net → x.width ≡ net.width → FitNets d nets → FitNets d (set nets n x)
   set_fits nets n net x is wide fits m other y e got = go (set_cases nets n m x y got)
     where
@@ -68,7 +46,7 @@ module _ (d : Flat) where
   settled_fit : (row : List Word) (store : Store) (nets : List Word) → IsRow d row → IsSettled d row store nets → FitNets d nets
   settled_fit row store nets fits settled n net x is got =
       let aim = net_aim d row (scene_of d store nets) n net in
-      ap (λ z. z.width) (got_one (slice_get nets n) x aim got (settled.each n net is)) ∙ aim_wide row (scene_of d store nets) n net fits is
+      ap (λ z. z.width) (got_one (slice_get nets n) x aim got (settled.each n net is)) ∙ aim_wide d row (scene_of d store nets) n net fits is
 
   -- ---- the next edge
 
@@ -121,16 +99,13 @@ module _ (d : Flat) (sound : IsSound d) where
       procs = All-set (FitsProcess d) c.procs i p hp h.procs;
     }
 
-    process_fits : (i : ℕ) (p : Process) → slice_get c.procs i ≡ Some p → FitsProcess d p
-    process_fits i p e = All-contains (FitsProcess d) c.procs p h.procs (con_got c.procs i p e)
-
     ran_leads : (i : ℕ) (o : Option Process) → slice_get c.procs i ≡ o → Leads (take_run d c i o)
     ran_leads i None e = tt
     ran_leads i (Some p) e = go (act d (scene d c) p) refl
       where
         go : (a : Option Acted) → act d (scene d c) p ≡ a → Leads (option_map (λ a. with_process c i a.writes a.process) a)
         go None is = tt
-        go (Some a) is = let left = act_fits d sound (scene d c) p a (process_fits i p e) is in with_fits i a.writes a.process left.1 left.0
+        go (Some a) is = let left = act_fits d sound (scene d c) p a (process_fits d c i p h e) is in with_fits i a.writes a.process left.1 left.0
 
     net_leads : (n : ℕ) (o : Option FlatNet) → slice_get d.nets n ≡ o → Leads (take_net d c n o)
     net_leads n None e = tt
@@ -155,7 +130,7 @@ module _ (d : Flat) (sound : IsSound d) where
 
     update_leads : (i : ℕ) (o : Option Process) → slice_get c.procs i ≡ o → Leads (take_update c i o)
     update_leads i None e = tt
-    update_leads i (Some p) e = let fits = process_fits i p e in oldest_leads i p p.updates fits fits.1
+    update_leads i (Some p) e = let fits = process_fits d c i p h e in oldest_leads i p p.updates fits fits.1
 
     leads : (e : Event) → Leads (take d c e)
     leads (Run i) = ran_leads i (slice_get c.procs i) refl

@@ -1,6 +1,6 @@
 -- What fits a sound design goes on to fit it: stacks and their quiet steps, and the events of processes.
-use Rattle.std.proofs.Common.{◌≡◌, ℕ, zero, suc, Bool, true, false, ◌==◌, if◌then◌else◌, List, [], ◌∷◌, ◌++◌, map, zip, flat_map, slice_get, All, Contains, Option, Some, None, IfSome, is_some, option_map, unwrap_or, refl, subst}
-use Rattle.std.proofs.lemmas.List.Elements.{All-nil, All-cons, All-head, All-tail, All-append, All-push, All-weaker, All-contains, Contains-append_left, Contains-append_right}
+use Rattle.std.proofs.Common.{◌≡◌, ℕ, zero, suc, Bool, true, false, ◌==◌, if◌then◌else◌, List, [], ◌∷◌, ◌++◌, zip, slice_get, All, Contains, Option, Some, None, IfSome, is_some, option_map, unwrap_or, refl, subst}
+use Rattle.std.proofs.lemmas.List.Elements.{All-nil, All-cons, All-head, All-tail, All-append, All-push}
 use Rattle.xt_base.specs.declared.refusals.Place.{Place}
 use Rattle.xt_bits.specs.Stimulus.{Reply}
 use Rattle.xt_bits.specs.Word.{Word}
@@ -9,15 +9,15 @@ use Rattle.el_design.specs.Plain.{Expr, Lvalue, ToVariable, Statement, Null, Ski
 use Rattle.el_design.specs.Store.{stored, width_of, Write}
 use Rattle.el_design.specs.Value.{Scene, value, is_up}
 use Rattle.el_design.specs.Assign.{writes_of, copies_to, after, has_label, arm_chosen, count_of}
-use Rattle.el_design.specs.Names.{target_indexes, listed}
+use Rattle.el_design.specs.Names.{listed}
 use Rattle.el_design.specs.InPlace.{itself, in_forever}
 use Rattle.el_design.specs.Sound.{IsExpr, IsOutput, IsSound}
 use Rattle.el_design.specs.Stack.{Work, Do, End, Return, Test, Step, Turns, Await, enter, settle, start_stack, wake, below_mark}
 use Rattle.el_design.specs.Act.{Process, Acted, ran, turn, copied_in, copied_out, enabled, import_at, item_word, result_written, outputs_written, replied, assigned, act_do, act_top, act}
-use Rattle.el_design.proofs.OrderPlaces.{con_got, con_map}
-use Rattle.ev_run.specs.Fitting.{IsDeclared, IsWellMade, FitsOutput, FitsWrite, IsSoundText, IsVariableOf, FitsLoop, FitsWork, FitsProcess}
+use Rattle.ev_run.specs.Fitting.{IsDeclared, FitsOutput, FitsWrite, IsSoundText, FitsLoop, FitsWork, FitsProcess}
 use Rattle.ev_run.proofs.Widths.{all_left, all_right}
 use Rattle.ev_run.proofs.Keeping.{writes_fit, copies_fit, variable_fits, body_self, body_seq, body_block, body_if, body_case, body_arm, body_for, body_while, body_repeat, body_forever}
+use Rattle.ev_run.proofs.Statements.{variable_declared, for_variable, for_made, enable_made, host_made, process_body, task_body, task_formals}
 
 -- one of two
 pub chosen : {X : Type 0} (P : X → Type 0) (b : Bool) (x y : X) → P x → P y → P (if b then x else y)
@@ -85,54 +85,26 @@ any_one xs k d lt = tt
 -- ---- events of processes
 
 module _ (d : Flat) (sound : IsSound d) where
-  is_declared : (v : ℕ) → IsVariableOf d v → IsDeclared d v
-  is_declared v h = (h.1.var, h.1.is)
-
-  outputs_fit : (ts : List Lvalue) → All (IsOutput d) ts → All (IsExpr d) (flat_map target_indexes ts) → All (FitsOutput d) ts
-  outputs_fit [] h k = All-nil (FitsOutput d)
-  outputs_fit (t ∷ ts) h k =
-      let own = all_left (IsExpr d) (target_indexes t) (flat_map target_indexes ts) k in
-      All-cons (FitsOutput d) t ts (All-head (IsOutput d) t ts h, All-weaker (IsExpr d) (IsWellMade d) (λ e i. i.nodes) (target_indexes t) own)
-      (outputs_fit ts (All-tail (IsOutput d) t ts h) (all_right (IsExpr d) (target_indexes t) (flat_map target_indexes ts) k))
-
   -- a process from its beginning
   always_fits : (at : Place) (body : Statement) → IsSoundText d body → IsSoundText d (Forever at body)
   always_fits at body h x (o, itself) = record { expressions = All-nil (IsExpr d); outputs = All-nil (IsOutput d); fits = tt }
   always_fits at body h x (o, in_forever k) = h x (o, k)
 
-  process_body_fits : (p : FlatProc) → Contains d.procs p → IsSoundText d p.body
-  process_body_fits p c =
-      let procs = map (λ x. x.body) d.procs in
-      let tasks = map (λ x. x.body) d.tasks in
-      let of_procs : Contains procs p.body = con_map (λ x. x.body) d.procs p c in
-      λ x h. sound.statements p.body x (Contains-append_left (procs ++ tasks) (map (λ x. x.body) d.funcs) p.body (Contains-append_left procs tasks p.body of_procs)) h
-
   pub start_stack_fits : (p : FlatProc) → Contains d.procs p → All (FitsWork d) (start_stack p)
   start_stack_fits p c =
-      let body = process_body_fits p c in
+      let body = process_body d sound p c in
       let first : Work = if p.always then Do (Forever p.place p.body) else Do p.body in
       settle_fits d (first ∷ []) (pushed d first [] (chosen (FitsWork d) p.always (Do (Forever p.place p.body)) (Do p.body) (always_fits p.place p.body body) body) (All-nil (FitsWork d)))
 
-  -- the body of a task, and its formals
-  task_body_fits : (t : ℕ) (task : FlatTask) → slice_get d.tasks t ≡ Some task → IsSoundText d task.body
-  task_body_fits t task e =
-      let of_tasks : Contains (map (λ x. x.body) d.tasks) task.body = con_map (λ x. x.body) d.tasks task (con_got d.tasks t task e) in
-      let procs = map (λ x. x.body) d.procs in
-      let tasks = map (λ x. x.body) d.tasks in
-      λ x h. sound.statements task.body x (Contains-append_left (procs ++ tasks) (map (λ x. x.body) d.funcs) task.body (Contains-append_right procs tasks task.body of_tasks)) h
-
-  formals_fit : (t : ℕ) (task : FlatTask) → slice_get d.tasks t ≡ Some task → All (IsVariableOf d) (task.ins ++ task.outs)
-  formals_fit t task e = All-contains (λ x. All (IsVariableOf d) (x.ins ++ x.outs)) d.tasks task sound.tasks (con_got d.tasks t task e)
-
-  copied_in_fits : (s : Scene) (xs : List (ℕ × Expr)) → All (λ x. IsVariableOf d x.0) xs → All (FitsWrite d) (copied_in d s xs)
+  copied_in_fits : (s : Scene) (xs : List (ℕ × Expr)) → All (λ x. IsDeclared d x.0) xs → All (FitsWrite d) (copied_in d s xs)
   copied_in_fits s [] h = All-nil (FitsWrite d)
   copied_in_fits s (x ∷ xs) h =
       All-append (FitsWrite d) (writes_of d s (ToVariable x.0) (value d s x.1)) (copied_in d s xs)
-      (variable_fits d sound s x.0 (is_declared x.0 (All-head (λ x. IsVariableOf d x.0) x xs h)) (value d s x.1))
-      (copied_in_fits s xs (All-tail (λ x. IsVariableOf d x.0) x xs h))
+      (variable_fits d sound s x.0 (All-head (λ x. IsDeclared d x.0) x xs h) (value d s x.1))
+      (copied_in_fits s xs (All-tail (λ x. IsDeclared d x.0) x xs h))
 
   abbrev FitsCopy : ℕ × Lvalue → Type 0
-  FitsCopy x = IsVariableOf d x.0 × FitsOutput d x.1
+  FitsCopy x = IsDeclared d x.0 × FitsOutput d x.1
 
   copied_out_fits : (s : Scene) (xs : List (ℕ × Lvalue)) → All FitsCopy xs → All (FitsWrite d) (copied_out d s xs)
   copied_out_fits s [] h = All-nil (FitsWrite d)
@@ -188,12 +160,12 @@ module _ (d : Flat) (sound : IsSound d) where
         → Leaves (enabled d s p k at ins outs o)
     enabled_leaves at t ins outs None e h = ran_fits at [] k no_writes below
     enabled_leaves at t ins outs (Some task) e h =
-        let formals = formals_fit t task e in
-        let copied = zipped (IsVariableOf d) (λ y. Unit {0}) (λ z. IsVariableOf d z.0) (λ x y a b. a) task.ins ins (all_left (IsVariableOf d) task.ins task.outs formals) (any_one ins) in
-        let outputs = zipped (IsVariableOf d) (FitsOutput d) FitsCopy (λ x y a b. (a, b)) task.outs outs (all_right (IsVariableOf d) task.ins task.outs formals) h in
+        let formals = task_formals d sound t task e in
+        let copied = zipped (IsDeclared d) (λ y. Unit {0}) (λ z. IsDeclared d z.0) (λ x y a b. a) task.ins ins formals.0 (any_one ins) in
+        let outputs = zipped (IsDeclared d) (FitsOutput d) FitsCopy (λ x y a b. (a, b)) task.outs outs formals.1 h in
         let end : Work = Return at task.mark (zip task.outs outs) in
         ran_fits at (copied_in d s (zip task.ins ins)) (Do task.body ∷ end ∷ k) (copied_in_fits s (zip task.ins ins) copied)
-        (pushed d (Do task.body) (end ∷ k) (task_body_fits t task e) (over end outputs))
+        (pushed d (Do task.body) (end ∷ k) (task_body d sound t task e) (over end outputs))
 
     while_leaves : (at : Place) (b : Bool) (body : Statement) (later : Work) → IsSoundText d body → FitsWork d later
         → Leaves (ran at [] p (if b then Do body ∷ later ∷ k else k))
@@ -204,8 +176,8 @@ module _ (d : Flat) (sound : IsSound d) where
     turned_leaves : (at : Place) (n : ℕ) (body : Statement) → IsSoundText d body → Leaves (ran at [] p (turn at n body k))
     turned_leaves at n body h = ran_fits at [] (turn at n body k) no_writes (turn_fits at n body h)
 
-    stored_leaves : (at : Place) (v : ℕ) (x : Word) (w : Work) → IsVariableOf d v → FitsWork d w → Leaves (ran at (writes_of d s (ToVariable v) x) p (w ∷ k))
-    stored_leaves at v x w h l = ran_fits at (writes_of d s (ToVariable v) x) (w ∷ k) (variable_fits d sound s v (is_declared v h) x) (over w l)
+    stored_leaves : (at : Place) (v : ℕ) (x : Word) (w : Work) → IsDeclared d v → FitsWork d w → Leaves (ran at (writes_of d s (ToVariable v) x) p (w ∷ k))
+    stored_leaves at v x w h l = ran_fits at (writes_of d s (ToVariable v) x) (w ∷ k) (variable_fits d sound s v h x) (over w l)
 
     disabled_fits : (o : Option (List Work)) → IfSome o (All (FitsWork d)) → All (FitsWork d) (unwrap_or o k)
     disabled_fits None h = below
@@ -226,19 +198,15 @@ module _ (d : Flat) (sound : IsSound d) where
         turned_leaves at (count_of d s count) body (body_repeat d at count body h)
     do_leaves (For at v first test next body) h =
         let own = body_self d _ h in
-        let variable : IsVariableOf d v = (own.fits.0, own.fits.1) in
-        let further = All-tail (IsExpr d) first (test ∷ next ∷ []) own.expressions in
-        let last = All-tail (IsExpr d) test (next ∷ []) further in
-        let inner = body_for d at v first test next body h in
-        let loop : FitsLoop d v test next body = (variable, (All-head (IsExpr d) test (next ∷ []) further).nodes, (All-head (IsExpr d) next [] last).nodes, inner) in
-        stored_leaves at v (value d s first) (Test at v test next body) variable loop
+        let variable = for_variable d at v first test next body own in
+        let made = for_made d at v first test next body own in
+        let loop : FitsLoop d v test next body = (variable, made.1, made.2, body_for d at v first test next body h) in
+        stored_leaves at v (value d s first) (Test at v test next body) (variable_declared d v variable) loop
     do_leaves (Enable at t ins outs) h =
-        let own = body_self d _ h in
-        enabled_leaves at t ins outs (slice_get d.tasks t) refl (outputs_fit outs own.outputs (all_right (IsExpr d) ins (flat_map target_indexes outs) own.expressions))
+        enabled_leaves at t ins outs (slice_get d.tasks t) refl (enable_made d at t ins outs (body_self d _ h)).1
     do_leaves (Disable at m) h = ran_fits at [] (unwrap_or (below_mark m k) k) no_writes (disabled_fits (below_mark m k) (below_given d m k below))
     do_leaves (Host at f ins result outs) h =
-        let own = body_self d _ h in
-        ((over (Await at f result outs) (outputs_fit (listed result ++ outs) own.outputs (all_right (IsExpr d) ins (flat_map target_indexes (listed result ++ outs)) own.expressions)), kept), no_writes)
+        ((over (Await at f result outs) (host_made d at f ins result outs (body_self d _ h)).1, kept), no_writes)
     do_leaves x h = tt
 
     replied_leaves : (at : Place) (f : ℕ) (result : Option Lvalue) (outs : List Lvalue) (rs : List Reply) → All (FitsOutput d) (listed result ++ outs)
@@ -259,7 +227,7 @@ module _ (d : Flat) (sound : IsSound d) where
       go (End m) fits below = tt
       go (Return at m outs) fits below = ran_fits s p kept k below at (copied_out d s outs) k (copied_out_fits s outs fits) below
       go (Test at v test next body) fits below = while_leaves s p kept k below at (is_up (value d s test)) body (Step at v test next body) fits.3 fits
-      go (Step at v test next body) fits below = stored_leaves s p kept k below at v (value d s next) (Test at v test next body) fits.0 fits
+      go (Step at v test next body) fits below = stored_leaves s p kept k below at v (value d s next) (Test at v test next body) (variable_declared d v fits.0) fits
       go (Turns at left body) fits below = turned_leaves s p kept k below at left body fits
       go (Await at f result outs) fits below = replied_leaves s p kept k below at f result outs p.replies fits
 

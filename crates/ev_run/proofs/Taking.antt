@@ -6,7 +6,7 @@ use Rattle.std.specs.Global.{Global}
 use Rattle.xt_bits.specs.Word.{Word}
 use Rattle.el_design.specs.Plain.{FlatNet, Flat}
 use Rattle.std.proofs.lemmas.List.Elements.{All-head}
-use Rattle.std.proofs.lemmas.Option.{slice_get_within}
+use Rattle.std.proofs.lemmas.Option.{same_Some, slice_get_within}
 use Rattle.el_design.specs.Value.{Scene}
 use Rattle.el_design.specs.Sound.{IsSound}
 use Rattle.el_design.specs.Store.{Store, Write, spot_variable, put_all}
@@ -15,9 +15,9 @@ use Rattle.el_design.specs.Queue.{Config, scene, net_aim, has_value, take_run, t
 use Rattle.el_design.specs.Laws.{has_updates}
 use Rattle.ev_run.specs.Simulated.{writes_seen, updates_seen}
 use Rattle.ev_run.specs.declared.writes.Write as code
-use Rattle.ev_run.specs.Fitting.{FitsScene, FitsWrite, FitsProcess, FitsConfig}
+use Rattle.ev_run.specs.Fitting.{FitsScene, FitsWrite, FitsWork, FitsConfig}
 use Rattle.ev_run.proofs.Keeping.{in_store}
-use Rattle.ev_run.proofs.Netting.{all_at}
+use Rattle.ev_run.proofs.States.{process_fits}
 use Rattle.ev_run.proofs.Steps.{act_fits}
 
 -- the element at a place, seen
@@ -26,12 +26,9 @@ seen_at f [] i x h e = absurd (omega (arith, h))
 seen_at f (y ∷ ys) zero x h e = ap (λ z. Some (f z)) (sym e)
 seen_at f (y ∷ ys) (suc i) x h e = seen_at f ys i x (omega (arith, h)) e
 
-some_is : {X : Type 0} (a b : X) → Some a ≡ Some b → a ≡ b
-some_is a b e = cc
-
 -- a place holds one element
 pub one_at : {X Y : Type 0} (f : X → Y) (xs : List X) (i : ℕ) (x y : X) → i < length xs → x ≡ get_or xs i x → y ≡ get_or xs i y → f x ≡ f y
-one_at f xs i x y h a b = some_is (f x) (f y) (sym (seen_at f xs i x h a) ∙ seen_at f xs i y h b)
+one_at f xs i x y h a b = same_Some (f x) (f y) (sym (seen_at f xs i x h a) ∙ seen_at f xs i y h b)
 
 -- a net took its value
 pub net_taken : (d : Flat) (c : Config) (n : ℕ) (net : FlatNet) (aim : Word) (nets : List Word) → slice_get d.nets n ≡ Some net → has_value d c n net ≡ false
@@ -60,13 +57,10 @@ some_acts o x f y e h = sym h ∙ ap (option_map f) e
 
 -- ---- what fits
 
-pub process_fits : (d : Flat) (c : Config) (i : ℕ) (p : Process) → FitsConfig d c → slice_get c.procs i ≡ Some p → FitsProcess d p
-process_fits d c i p f e = all_at (FitsProcess d) c.procs i p f.procs e
-
 -- what the event of a process is taken in
 pub acting : (d e : Flat) (c : Config) (s : Scene) (i : ℕ) (p : Process) → e ≡ d → s ≡ scene d c → slice_get c.procs i ≡ Some p → IsSound d × FitsConfig d c
-    → IsSound e × FitsScene e s × FitsProcess e p
-acting d e c s i p q r is g = rw (q, r) (g.0, (g.1.store, g.1.nets), process_fits d c i p g.1 is)
+    → IsSound e × FitsScene e s × All (FitsWork e) p.stack
+acting d e c s i p q r is g = rw (q, r) (g.0, (g.1.store, g.1.nets), (process_fits d c i p g.1 is).0)
 
 -- what a process writes is in the store
 pub writes_in : (d : Flat) (c : Config) (s : Scene) (i : ℕ) (p : Process) (a : Acted) (ws : List Write) → slice_get c.procs i ≡ Some p → act d s p ≡ Some a → ws ≡ a.writes

@@ -2,7 +2,7 @@
 use Rattle.std.proofs.Common.{◌≡◌, ◌≢◌, ℕ, zero, suc, ◌+◌, ◌-◌, ◌*◌, ◌≤◌, ◌&&◌, Bool, true, false, if◌then◌else◌, List, [], ◌∷◌, ◌++◌, Some, All, map, fold, sum, slice_get, get_or, refl, sym, ◌∙◌, ap, ap₂, subst, subst₂, arith, zero-add, suc-mul, one-mul, pos, ◌-ℤ◌}
 use Rattle.std.proofs.lemmas.List.Elements.{All-nil, All-cons, All-head, All-tail}
 use Rattle.std.proofs.lemmas.List.Sums.{AllPass-from_list_all}
-use Rattle.std.proofs.lemmas.Option.{get_or_from_slice_get}
+use Rattle.std.proofs.lemmas.Option.{get_or_from_slice_get, slice_get_within}
 use Rattle.xt_base.specs.declared.TheConstants.{MAX_WIDTH}
 use Rattle.xt_bits.specs.Word.{Word, word, integer_of}
 use Rattle.xt_bits.specs.Operators.{concat_of, extend_of, select_of}
@@ -21,6 +21,9 @@ use Rattle.el_design.specs.Sound.{IsNode, IsWidth, IsNet, IsPlainVariable, IsMem
 use Rattle.ev_run.specs.Fitting.{FitsStore, FitNets, FitsScene, IsDeclared, IsWellMade, AreWellMade, IsWellMadeRange, FitOperands, IsNoZeroDivisor}
 
 -- ---- parts of lists
+
+pub all_at : {X : Type 0} (P : X → Type 0) (xs : List X) (i : ℕ) (x : X) → slice_get xs i ≡ Some x → All P xs → P x
+all_at P xs i x e h = subst P (get_or_from_slice_get xs i x x e) (h i x (slice_get_within xs i x e))
 
 pub all_left : {X : Type 0} (P : X → Type 0) (xs ys : List X) → All P (xs ++ ys) → All P xs
 all_left P [] ys h = All-nil P
@@ -208,7 +211,7 @@ joined_width : (xs : List Word) → 1 ≤ sum (map (λ x. x.width) xs) → (join
 joined_width [] h = absurd (omega arith)
 joined_width (x ∷ xs) h = joined_more x xs ∙ ap (λ a. fold (λ a x. a + x) a (map (λ x. x.width) xs)) (sym (zero-add x.width))
 
-copies_more : (n : ℕ) (a : Word) → (copies n a).width ≡ suc n * a.width
+pub copies_more : (n : ℕ) (a : Word) → (copies n a).width ≡ suc n * a.width
 copies_more zero a = sym (one-mul a.width)
 copies_more (suc n) a = ap (λ k. k + a.width) (copies_more n a) ∙ sym (suc-mul (suc n) a.width)
 

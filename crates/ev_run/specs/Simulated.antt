@@ -1,12 +1,12 @@
--- What the plain simulator's values stand for.
-use Rattle.std.specs.Prelude.{ℕ, suc, ◌==◌, if◌then◌else◌, List, [], ◌∷◌, map, zip, option_map, Vec}
+-- What the plain simulator's values stand for. All of it is this project's own.
+use Rattle.std.specs.Prelude.{ℕ, List, length, map, zip, option_map, Vec}
 use Rattle.std.specs.Global.{Global}
 use Rattle.el_design.specs.View.{flat_of, expr_of, lvalue_of, statement_of, seq_of}
-use Rattle.xt_bits.specs.Word.{Word, word}
+use Rattle.xt_bits.specs.Word.{Word}
 use Rattle.el_design.specs.Plain.{Forever, FlatNet, Flat}
 use Rattle.el_design.specs.Value as values
 use Rattle.el_design.specs.Queue as queue
-use Rattle.el_design.specs.Queue.{net_aim}
+use Rattle.el_design.specs.Queue.{net_aim, numbers}
 use Rattle.el_design.specs.Function.{call_to}
 use Rattle.el_design.specs.Store as stores
 use Rattle.el_design.specs.Stack as stacks
@@ -33,6 +33,7 @@ use Rattle.ev_run.specs.declared.traces.Ending as endings
 use Rattle.ev_run.specs.declared.traces.Ending.TheVariants as ending
 use Rattle.ev_run.specs.declared.traces.Seen as seens
 
+-- the design of a scene, and the scene: calls of functions nest as deep as it says
 abbrev pub flat_seen : Scene → Flat
 flat_seen s = flat_of s.design.now
 
@@ -89,21 +90,19 @@ did_seen kinds.Replied = acts.Replied
 abbrev pub acted_seen : processes.Process → acteds.Acted → acts.Acted
 acted_seen p a = record { did = did_seen a.did; at = a.at; writes = map write_seen a.writes.items; process = process_seen p }
 
--- ---- nets
+-- ---- nets: the values that they take from their expressions in a scene, which no public contract cites
 
--- the value of a net without an expression, by the pins' nets and their values
-abbrev pub pin_in : List ℕ → List Word → ℕ → ℕ → Word
-pin_in [] row n w = word w 0
-pin_in (k ∷ ks) [] n w = word w 0
-pin_in (k ∷ ks) (x ∷ row) n w = if k == n then x else pin_in ks row n w
+-- those of numbered nets
+abbrev pub aims_of : Flat → List Word → values.Scene → List (ℕ × FlatNet) → List Word
+aims_of d row s nets = map (λ x. net_aim d row s x.0 x.1) nets
 
--- the values that nets take, the first of which has this number
-abbrev pub aims_of : Flat → List Word → values.Scene → ℕ → List FlatNet → List Word
-aims_of d row s n [] = []
-aims_of d row s n (x ∷ xs) = net_aim d row s n x ∷ aims_of d row s (suc n) xs
+-- those of all nets
+abbrev pub all_aims : Flat → List Word → values.Scene → List Word
+all_aims d row s = aims_of d row s (zip (numbers (length d.nets)) d.nets)
 
 -- ---- runs
 
+-- an event, a state, and the rows and replies that a run is given
 abbrev pub event_seen : events.Event → queue.Event
 event_seen (event.Run i) = queue.Run i
 event_seen (event.Follow n) = queue.Follow n
@@ -132,5 +131,6 @@ seen_seen s = record { calls = map (λ cs. map call_seen cs) s.calls; ending = e
 abbrev pub trace_seen : List seens.Seen → traces.Trace
 trace_seen xs = map seen_seen xs
 
+-- the events of each edge
 abbrev pub plays_seen : List (List events.Event) → List (List queue.Event)
 plays_seen xs = map events_seen xs

@@ -1,5 +1,5 @@
 //! The event of a process.
-ghost use Rattle.std.specs.Prelude.{◌≡◌, ◌∷◌, map, IfOk, MatchResult, true, Some, option_map, IfErr};
+ghost use Rattle.std.specs.Prelude.{◌≡◌, ◌∷◌, map, IfOk, MatchResult, true, Some, None, option_map, IfErr, All};
 ghost use Rattle.el_design.specs.Act as spec;
 ghost use Rattle.el_design.specs.Assign as assigns;
 ghost use Rattle.el_design.specs.Value as values;
@@ -8,12 +8,13 @@ ghost use Rattle.el_design.specs.View.{expr_of, lvalue_of, statement_of, arm_of,
 ghost use Rattle.ev_run.specs.Simulated.{flat_seen, scene_seen, work_seen, stack_seen, writes_seen, process_seen, acted_seen};
 ghost use Rattle.el_design.specs.Names.{labels_in};
 ghost use Rattle.el_design.specs.Sound.{IsSound, IsStatement};
-ghost use Rattle.ev_run.specs.Fitting.{Fails, FitsScene, IsDeclared, IsWellMade, AreWellMade, FitsWork, FitsProcess};
+ghost use Rattle.ev_run.specs.Fitting.{Fails, FitsScene, IsDeclared, IsWellMade, AreWellMade, FitsWork};
 
 use crate::enables::{enable, leave};
 use crate::loops::{start_for, start_repeat, step_for, test_for, test_while, turn};
 use crate::operators::Trouble;
 use crate::processes::{Acted, Did, Process};
+use crate::queue::can_run;
 use crate::requests::{ask, take_reply};
 use crate::stacks::{Work, below_mark, settle};
 use crate::targets::{variable_writes, writes_of};
@@ -314,7 +315,7 @@ fn act_top<'a>(
     }
 }
 
-/// The event of a process, if it has one; the process is then as the event leaves it.
+/// The event of a process, if it has one; the process is then as the event leaves it, and else as it was.
 #[tactic(auto, using(crate::proofs::Acting::top_same))]
 pub fn act<'a>(
     alloc: Global,
@@ -322,9 +323,10 @@ pub fn act<'a>(
     process: &mut Process<'a>,
 ) -> Result<Option<Acted>, Trouble>
     ensures gives { IfOk result (λ a. option_map (acted_seen process.new) a ≡ spec.act (flat_seen scene.now) (scene_seen scene.now) (process_seen process.old)) }
-    ensures failed { IfErr result (λ t. Fails t (IsSound (flat_seen scene.now) × FitsScene (flat_seen scene.now) (scene_seen scene.now) × FitsProcess (flat_seen scene.now) (process_seen process.old))) }
+    ensures kept { IfOk result (λ a. a ≡ None → process.new ≡ process.old) }
+    ensures failed { IfErr result (λ t. Fails t (IsSound (flat_seen scene.now) × FitsScene (flat_seen scene.now) (scene_seen scene.now) × All (FitsWork (flat_seen scene.now)) (stack_seen process.old.stack))) }
 {
-    if process.stack.is_empty() {
+    if !can_run(process) {
         return Ok(None);
     }
     let top = process.stack.remove(0);

@@ -28,7 +28,8 @@ fn picked(pick: u64, events: &[Event]) -> Event
     events[(pick >> 33) as usize % events.len()]
 }
 
-/// Takes events while one may be taken, each as the pick gives it. The pick is then what it has come to.
+/// Takes events while one may be taken, each as the pick gives it, fewer than `budget` says; where as many are taken, the
+/// answer is [`Trouble::Budget`] instead. The pick is then what it has come to.
 pub fn play<'a>(
     alloc: Global,
     design: &'a Design,
@@ -38,7 +39,8 @@ pub fn play<'a>(
 ) -> Result<Vec<Event>, Trouble>
     ensures taken { IfOk result (λ es. (first k : ℕ) → pick.old ≡ spec.pick_after first k → spec.Takes (flat_of design.now) (spec.Picked first) k (config_seen config.old) (events_seen es.items) (config_seen config.new) × (pick.new ≡ spec.pick_after first (k + length es.items))) }
     ensures done { IfOk result (λ es. queue.ready (flat_of design.now) (config_seen config.new) ≡ []) }
-    ensures failed { IfErr result (λ t. GivesUp t (IsSound (flat_of design.now) × FitsConfig (flat_of design.now) (config_seen config.old)) ((first k : ℕ) → pick.old ≡ spec.pick_after first k → HasEvents (flat_of design.now) (spec.Picked first) k (config_seen config.old) budget)) }
+    ensures few { IfOk result (λ es. length es.items < budget) }
+    ensures failed { IfErr result (λ t. GivesUp t (IsSound (flat_of design.now) × FitsConfig (flat_of design.now) (config_seen config.old)) ((first k : ℕ) → pick.old ≡ spec.pick_after first k → HasEvents (flat_of design.now) first k (config_seen config.old) budget)) }
 {
     let mut taken = Vec::new(alloc);
     for _event in 0..budget {

@@ -1,5 +1,5 @@
 //! What an event does to the state of a run.
-ghost use Rattle.std.specs.Prelude.{◌≡◌, slice_get, Some, None, if◌then◌else◌, IfOk, IfErr};
+ghost use Rattle.std.specs.Prelude.{◌≡◌, false, slice_get, Some, None, if◌then◌else◌, IfOk, IfErr};
 ghost use Rattle.el_design.specs.Plain.{Flat};
 ghost use Rattle.el_design.specs.Queue as queue;
 ghost use Rattle.el_design.specs.View.{flat_of};
@@ -16,7 +16,7 @@ use crate::writes::put_all;
 use el_design::Design;
 use std::alloc::Global;
 
-/// The event of a process; false where it has none.
+/// The event of a process; false, and nothing changed, where it has none.
 fn take_run<'a>(
     alloc: Global,
     design: &'a Design,
@@ -24,6 +24,7 @@ fn take_run<'a>(
     at: usize,
 ) -> Result<bool, Trouble>
     ensures gives { IfOk result (λ taken. queue.take_run (flat_of design.now) (config_seen config.old) at (slice_get (config_seen config.old).procs at) ≡ (if taken then Some (config_seen config.new) else None)) }
+    ensures kept { IfOk result (λ taken. taken ≡ false → config_seen config.new ≡ config_seen config.old) }
     ensures failed { IfErr result (λ t. Fails t (IsSound (flat_of design.now) × FitsConfig (flat_of design.now) (config_seen config.old))) }
 {
     if at >= config.procs.len() {
@@ -39,9 +40,10 @@ fn take_run<'a>(
     }
 }
 
-/// A net takes its value; false where it has it.
+/// A net takes its value; false, and nothing changed, where it has it.
 fn take_net(alloc: Global, design: &Design, config: &mut Config, at: usize) -> Result<bool, Trouble>
     ensures gives { IfOk result (λ taken. queue.take_net (flat_of design.now) (config_seen config.old) at (slice_get (flat_of design.now).nets at) ≡ (if taken then Some (config_seen config.new) else None)) }
+    ensures kept { IfOk result (λ taken. taken ≡ false → config_seen config.new ≡ config_seen config.old) }
     ensures failed { IfErr result (λ t. Fails t (IsSound (flat_of design.now) × FitsConfig (flat_of design.now) (config_seen config.old))) }
 {
     let Some(net) = design.nets.get(at) else {
@@ -59,9 +61,10 @@ fn take_net(alloc: Global, design: &Design, config: &mut Config, at: usize) -> R
     Ok(true)
 }
 
-/// The oldest update of a process; false where it has none.
+/// The oldest update of a process; false, and nothing changed, where it has none.
 fn take_update(alloc: Global, config: &mut Config, at: usize) -> Result<bool, Trouble>
     ensures gives { IfOk result (λ taken. queue.take_update (config_seen config.old) at (slice_get (config_seen config.old).procs at) ≡ (if taken then Some (config_seen config.new) else None)) }
+    ensures kept { IfOk result (λ taken. taken ≡ false → config_seen config.new ≡ config_seen config.old) }
     ensures failed { IfErr result (λ t. Fails t ((d : Flat) × FitsConfig d (config_seen config.old))) }
 {
     if at >= config.procs.len() || !has_update(&config.procs[at]) {
@@ -72,7 +75,7 @@ fn take_update(alloc: Global, config: &mut Config, at: usize) -> Result<bool, Tr
     Ok(true)
 }
 
-/// Takes an event; false where it may not be taken.
+/// Takes an event; false, and nothing changed, where it may not be taken.
 pub fn take<'a>(
     alloc: Global,
     design: &'a Design,
@@ -80,6 +83,7 @@ pub fn take<'a>(
     event: Event,
 ) -> Result<bool, Trouble>
     ensures gives { IfOk result (λ taken. queue.take (flat_of design.now) (config_seen config.old) (event_seen event) ≡ (if taken then Some (config_seen config.new) else None)) }
+    ensures kept { IfOk result (λ taken. taken ≡ false → config_seen config.new ≡ config_seen config.old) }
     ensures failed { IfErr result (λ t. Fails t (IsSound (flat_of design.now) × FitsConfig (flat_of design.now) (config_seen config.old))) }
 {
     match event {

@@ -1,9 +1,10 @@
 //! A plain simulator whose answers are the definitions, calls of functions too: slow, and a tool for tests. In a sound
-//! design, with what fits it, each call has its answer but for want of memory. A run also has a budget: it ends without
-//! an answer where an edge has as many events, or its nets need as many sweeps to settle.
+//! design whose nets have an order, with what fits it, each call has its answer but for want of memory. A run also has a
+//! budget: it ends without an answer where an edge has as many events.
 #![tactic(auto)]
 
 mod acts;
+mod bodies;
 mod edges;
 mod enables;
 mod events;

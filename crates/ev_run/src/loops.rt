@@ -6,7 +6,7 @@ ghost use Rattle.el_design.specs.Stack as stacks;
 ghost use Rattle.el_design.specs.Plain as plain;
 ghost use Rattle.el_design.specs.View.{expr_of, statement_of};
 ghost use Rattle.el_design.specs.Sound.{IsSound, IsStatement};
-ghost use Rattle.ev_run.specs.Fitting.{Fails, FitsScene, IsWellMade, FitsWork};
+ghost use Rattle.ev_run.specs.Fitting.{Fails, FitsScene, IsDeclared, IsWellMade};
 ghost use Rattle.ev_run.specs.Simulated.{flat_seen, scene_seen, stack_seen, process_seen, acted_seen};
 
 use crate::acts::{holds, ran, set_variable};
@@ -58,7 +58,7 @@ pub fn test_for<'a>(
     body: &'a Stmt,
 ) -> Result<Acted, Trouble>
     ensures gives { IfOk result (λ a. Some (acted_seen process.new a) ≡ spec.act_top (flat_seen scene.now) (scene_seen scene.now) (process_seen process.old) (stacks.Test at var (expr_of test.now) (expr_of next.now) (statement_of body.now) ∷ stack_seen process.old.stack)) }
-    ensures failed { IfErr result (λ t. Fails t (IsSound (flat_seen scene.now) × FitsScene (flat_seen scene.now) (scene_seen scene.now) × FitsWork (flat_seen scene.now) (stacks.Test at var (expr_of test.now) (expr_of next.now) (statement_of body.now)))) }
+    ensures failed { IfErr result (λ t. Fails t (IsSound (flat_seen scene.now) × FitsScene (flat_seen scene.now) (scene_seen scene.now) × IsWellMade (flat_seen scene.now) (expr_of test.now))) }
 {
     if holds(alloc, scene, test)? {
         process.stack.insert(
@@ -88,7 +88,7 @@ pub fn step_for<'a>(
     body: &'a Stmt,
 ) -> Result<Acted, Trouble>
     ensures gives { IfOk result (λ a. Some (acted_seen process.new a) ≡ spec.act_top (flat_seen scene.now) (scene_seen scene.now) (process_seen process.old) (stacks.Step at var (expr_of test.now) (expr_of next.now) (statement_of body.now) ∷ stack_seen process.old.stack)) }
-    ensures failed { IfErr result (λ t. Fails t (IsSound (flat_seen scene.now) × FitsScene (flat_seen scene.now) (scene_seen scene.now) × FitsWork (flat_seen scene.now) (stacks.Step at var (expr_of test.now) (expr_of next.now) (statement_of body.now)))) }
+    ensures failed { IfErr result (λ t. Fails t (IsSound (flat_seen scene.now) × FitsScene (flat_seen scene.now) (scene_seen scene.now) × IsDeclared (flat_seen scene.now) var × IsWellMade (flat_seen scene.now) (expr_of next.now))) }
 {
     process.stack.insert(
         0,

@@ -19,7 +19,7 @@ use xt_bits::Bits;
 pub enum Trouble {
     #[error("out of memory")]
     Memory,
-    #[error("the design isn't sound, or something doesn't fit it")]
+    #[error("the design isn't sound, its nets have no order, or something doesn't fit it")]
     Unsound,
     #[error("the budget is used up")]
     Budget,

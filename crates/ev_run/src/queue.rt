@@ -8,7 +8,7 @@ ghost use Rattle.el_design.specs.Laws.{places_from, has_updates, is_empty};
 ghost use Rattle.el_design.specs.View.{flat_of, net_of, statement_of};
 ghost use Rattle.ev_run.specs.Simulated.{scene_seen, work_seen, reply_seen, process_seen, config_seen, event_seen, events_seen};
 ghost use Rattle.el_design.specs.Sound.{IsSound};
-ghost use Rattle.ev_run.specs.Fitting.{Fails, FitsConfig};
+ghost use Rattle.ev_run.specs.Fitting.{Fails, FitsScene, FitsConfig};
 
 use crate::nets::net_aim;
 use crate::operators::Trouble;
@@ -60,7 +60,7 @@ pub fn has_value(
     net: &Net,
 ) -> Result<bool, Trouble>
     ensures gives { IfOk result (λ b. b ≡ queue.has_value (flat_of design.now) (config_seen config.now) at (net_of net.now)) }
-    ensures failed { IfErr result (λ t. Fails t (IsSound (flat_of design.now) × FitsConfig (flat_of design.now) (config_seen config.now) × (slice_get (flat_of design.now).nets at ≡ Some (net_of net.now)))) }
+    ensures failed { let d = flat_of design.now in let c = config_seen config.now in IfErr result (λ t. Fails t (IsSound d × FitsScene d (queue.scene d c) × (slice_get d.nets at ≡ Some (net_of net.now)))) }
 {
     let scene = scene(design, config);
     let now = word_at(scene.nets, at as u128, net.width)?;
@@ -117,7 +117,7 @@ fn can_work(top: &Work, replies: &[Reply]) -> bool
 }
 
 /// The process has an event.
-fn can_run(process: &Process) -> bool
+pub fn can_run(process: &Process) -> bool
     ensures { result ≡ queue.can_run (process_seen process.now) }
 {
     match process.stack.as_slice() {
@@ -203,7 +203,7 @@ fn follows(
 ) -> Result<Vec<Event>, Trouble>
     requires { at + length nets.now ≤ usize.MAX }
     ensures gives { IfOk result (λ v. events_seen v.items ≡ map queue.Follow (places_from at (λ n net. not (queue.has_value (flat_of design.now) (config_seen config.now) n net)) (map net_of nets.now))) }
-    ensures failed { IfErr result (λ t. Fails t (IsSound (flat_of design.now) × FitsConfig (flat_of design.now) (config_seen config.now) × (map net_of nets.now ≡ drop at (flat_of design.now).nets))) }
+    ensures failed { let d = flat_of design.now in let c = config_seen config.now in IfErr result (λ t. Fails t (IsSound d × FitsScene d (queue.scene d c) × (map net_of nets.now ≡ drop at d.nets))) }
 {
     match nets {
         [] => Ok(Vec::new(alloc)),
@@ -294,7 +294,7 @@ fn joined(first: Vec<Event>, more: Vec<Event>) -> Result<Vec<Event>, Trouble>
 /// these and no process is at a call without a reply, the updates.
 pub fn ready(alloc: Global, design: &Design, config: &Config) -> Result<Vec<Event>, Trouble>
     ensures gives { IfOk result (λ v. events_seen v.items ≡ queue.ready (flat_of design.now) (config_seen config.now)) }
-    ensures failed { IfErr result (λ t. Fails t (IsSound (flat_of design.now) × FitsConfig (flat_of design.now) (config_seen config.now))) }
+    ensures failed { let d = flat_of design.now in IfErr result (λ t. Fails t (IsSound d × FitsScene d (queue.scene d (config_seen config.now)))) }
 {
     let procs = config.procs.as_slice();
     let runs = runs(alloc, procs, 0)?;
@@ -318,7 +318,7 @@ fn are_valued(
 ) -> Result<bool, Trouble>
     requires { at + length nets.now ≤ usize.MAX }
     ensures gives { IfOk result (λ b. b ≡ queue.are_valued (flat_of design.now) (config_seen config.now) at (map net_of nets.now)) }
-    ensures failed { IfErr result (λ t. Fails t (IsSound (flat_of design.now) × FitsConfig (flat_of design.now) (config_seen config.now) × (map net_of nets.now ≡ drop at (flat_of design.now).nets))) }
+    ensures failed { let d = flat_of design.now in let c = config_seen config.now in IfErr result (λ t. Fails t (IsSound d × FitsScene d (queue.scene d c) × (map net_of nets.now ≡ drop at d.nets))) }
 {
     match nets {
         [] => Ok(true),
@@ -335,7 +335,7 @@ fn are_valued(
 /// Updates may be taken.
 pub fn is_quiet(alloc: Global, design: &Design, config: &Config) -> Result<bool, Trouble>
     ensures gives { IfOk result (λ b. b ≡ queue.is_quiet (flat_of design.now) (config_seen config.now)) }
-    ensures failed { IfErr result (λ t. Fails t (IsSound (flat_of design.now) × FitsConfig (flat_of design.now) (config_seen config.now))) }
+    ensures failed { let d = flat_of design.now in let c = config_seen config.now in IfErr result (λ t. Fails t (IsSound d × FitsScene d (queue.scene d c))) }
 {
     let procs = config.procs.as_slice();
     let valued = are_valued(alloc, design, config, design.nets.as_slice(), 0)?;

@@ -1,13 +1,11 @@
 //! Runs under a pick.
-ghost use Rattle.std.specs.Prelude.{◌≡◌, List, [], ◌∷◌, ℕ, IfOk, IfErr};
+ghost use Rattle.std.specs.Prelude.{◌≡◌, ◌≤◌, ◌<◌, ◌+◌, All, List, [], ◌∷◌, ℕ, length, IfOk, IfErr};
 ghost use Rattle.xt_bits.specs.Stimulus.{Stimulus};
 ghost use Rattle.el_design.specs.Queue as queue;
 ghost use Rattle.el_design.specs.Run as spec;
-ghost use Rattle.el_design.specs.Laws.{EdgeBegins};
 ghost use Rattle.el_design.specs.View.{flat_of};
 ghost use Rattle.ev_run.specs.Simulated.{config_seen, rows_seen, stimulus_seen, events_seen, plays_seen, seen_seen, trace_seen};
-ghost use Rattle.el_design.specs.Sound.{IsSound};
-ghost use Rattle.ev_run.specs.Fitting.{GivesUp, OverBudget};
+ghost use Rattle.ev_run.specs.Fitting.{GivesUp, IsOrdered, ComesTo, UsesUp};
 
 use crate::edges::play;
 use crate::operators::Trouble;
@@ -67,7 +65,8 @@ fn go_on<'a>(
 ) -> Result<Played, Trouble>
     requires { queue.ready (flat_of design.now) (config_seen ended) ≡ [] }
     ensures gives { IfOk result (λ r. (first k : ℕ) → pick ≡ spec.pick_after first k → spec.Goes (flat_of design.now) (spec.Picked first) k (config_seen ended.entry) (rows_seen rows.now) (plays_seen r.plays.items) (trace_seen r.trace.items)) }
-    ensures failed { (x : Stimulus) (begin : queue.Config) (es : List queue.Event) (first k : ℕ) → EdgeBegins (flat_of design.now) x (rows_seen rows.now) begin → spec.Takes (flat_of design.now) spec.Any 0 begin es (config_seen ended.entry) → pick ≡ spec.pick_after first k → IfErr result (λ t. GivesUp t (IsSound (flat_of design.now) × spec.IsStimulus (flat_of design.now) x) (OverBudget (flat_of design.now) x first budget)) }
+    ensures few { IfOk result (λ r. All (λ es. length es < budget) (plays_seen r.plays.items)) }
+    ensures failed { (x : Stimulus) (begin : queue.Config) (es : List queue.Event) (first k : ℕ) → ComesTo (flat_of design.now) x first (rows_seen rows.now) k begin → spec.Takes (flat_of design.now) (spec.Picked first) k begin es (config_seen ended.entry) → pick ≡ spec.pick_after first (k + length es) → length x.rows ≤ u64.MAX → IfErr result (λ t. GivesUp t (IsOrdered (flat_of design.now) × spec.IsStimulus (flat_of design.now) x) (UsesUp (flat_of design.now) x first budget)) }
 {
     if any_stuck(ended.procs.as_slice()) {
         return last(alloc, starved_seen(alloc, &ended)?);
@@ -76,7 +75,7 @@ fn go_on<'a>(
     match rows {
         [] => last(alloc, seen),
         [row, rows @ ..] => {
-            let mut config = next(alloc, design, ended, row.as_slice(), budget)?;
+            let mut config = next(alloc, design, ended, row.as_slice())?;
             let mut pick = pick;
             let events = play(alloc, design, &mut config, &mut pick, budget)?;
             before(
@@ -89,9 +88,9 @@ fn go_on<'a>(
 }
 
 /// The run of a design under rows of values for its input pins, one for each edge, replies and a pick, and what is
-/// seen of it. Where in an edge as many events as `budget` says are taken, or the nets aren't settled after as many
-/// sweeps, the answer is [`Trouble::Budget`] instead. A design that isn't sound, or a stimulus that doesn't fit it, may
-/// have the answer [`Trouble::Unsound`].
+/// seen of it. Where in an edge as many events as `budget` says are taken, the answer is [`Trouble::Budget`] instead. A
+/// design that isn't sound, or whose nets have no order in which each stands after those that it reads, or a stimulus
+/// that doesn't fit it, may have the answer [`Trouble::Unsound`].
 pub fn run(
     alloc: Global,
     design: &Design,
@@ -101,12 +100,13 @@ pub fn run(
     budget: u64,
 ) -> Result<Played, Trouble>
     ensures gives { IfOk result (λ r. spec.RunsBy (flat_of design.now) (spec.Picked pick) (stimulus_seen rows.now replies.now) (plays_seen r.plays.items) (trace_seen r.trace.items)) }
-    ensures failed { IfErr result (λ t. GivesUp t (IsSound (flat_of design.now) × spec.IsStimulus (flat_of design.now) (stimulus_seen rows.now replies.now)) (OverBudget (flat_of design.now) (stimulus_seen rows.now replies.now) pick budget)) }
+    ensures few { IfOk result (λ r. All (λ es. length es < budget) (plays_seen r.plays.items)) }
+    ensures failed { IfErr result (λ t. GivesUp t (IsOrdered (flat_of design.now) × spec.IsStimulus (flat_of design.now) (stimulus_seen rows.now replies.now)) (UsesUp (flat_of design.now) (stimulus_seen rows.now replies.now) pick budget)) }
 {
     match rows {
         [] => Err(Trouble::Unsound),
         [row, rows @ ..] => {
-            let mut config = start(alloc, design, replies, row.as_slice(), budget)?;
+            let mut config = start(alloc, design, replies, row.as_slice())?;
             let mut now = pick;
             let events = play(alloc, design, &mut config, &mut now, budget)?;
             begun(events, go_on(alloc, design, config, rows, now, budget)?)

@@ -1,14 +1,14 @@
 //! How the edges of a run begin.
-ghost use Rattle.std.specs.Prelude.{◌≡◌, All, List, Vec, max, map, zip, replicate, IfOk, IfErr, ◌⊎◌, ◌≤◌, ◌^◌, suc};
+ghost use Rattle.std.specs.Prelude.{◌≡◌, All, List, Vec, max, map, zip, replicate, IfOk, IfErr, ◌≤◌, suc};
 ghost use Rattle.std.specs.Global.{Global};
 ghost use Rattle.xt_bits.specs.Word.{Word};
 ghost use Rattle.el_design.specs.Run as spec;
-ghost use Rattle.el_design.specs.Store.{start_word, start_store};
+ghost use Rattle.el_design.specs.Store.{start_word};
 ghost use Rattle.el_design.specs.View.{flat_of, proc_of};
 ghost use Rattle.ev_run.specs.Simulated.{process_seen, reply_seen, config_seen, stimulus_seen};
 ghost use Rattle.el_design.specs.Sound.{IsSound, IsVariable, IsWidth};
 ghost use Rattle.el_design.specs.Run.{IsRow};
-ghost use Rattle.ev_run.specs.Fitting.{Fails, GivesUp, FitsConfig, IsUnsettled};
+ghost use Rattle.ev_run.specs.Fitting.{Fails, FitsStore, IsOrdered};
 
 use crate::nets::settled_nets;
 use crate::operators::{Trouble, number};
@@ -114,15 +114,14 @@ pub fn start<'a>(
     design: &'a Design,
     replies: &'a Replies,
     row: &'a [Bits],
-    budget: u64,
 ) -> Result<Config<'a>, Trouble>
     ensures gives { IfOk result (λ c. (rows : List (Vec Word Global)) → spec.Starts (flat_of design.now) (stimulus_seen rows replies.now) row.now (config_seen c)) }
-    ensures failed { IfErr result (λ t. GivesUp t (IsSound (flat_of design.now) × IsRow (flat_of design.now) row.now) (IsUnsettled (flat_of design.now) row.now (start_store (flat_of design.now)) budget)) }
+    ensures failed { IfErr result (λ t. Fails t (IsOrdered (flat_of design.now) × IsRow (flat_of design.now) row.now)) }
 {
     let store = Items::from_vec(start_words(alloc, design.vars.as_slice())?);
     let lists = replies.lists.as_slice();
     let procs = all_started(alloc, design.procs.as_slice(), lists)?;
-    let nets = settled_nets(alloc, design, row, store.as_slice(), budget)?;
+    let nets = settled_nets(alloc, design, row, store.as_slice())?;
     Ok(Config {
         edge: 0,
         row,
@@ -165,10 +164,9 @@ pub fn next<'a>(
     design: &'a Design,
     last: Config<'a>,
     row: &'a [Bits],
-    budget: u64,
 ) -> Result<Config<'a>, Trouble>
     ensures gives { IfOk result (λ c. spec.Continues (flat_of design.now) (config_seen last.entry) row.now (config_seen c)) }
-    ensures failed { IfErr result (λ t. GivesUp t (IsSound (flat_of design.now) × IsRow (flat_of design.now) row.now × FitsConfig (flat_of design.now) (config_seen last.entry)) (IsUnsettled (flat_of design.now) row.now last.entry.store budget ⊎ (2 ^ 64 ≤ suc last.entry.edge))) }
+    ensures failed { IfErr result (λ t. Fails t (IsOrdered (flat_of design.now) × IsRow (flat_of design.now) row.now × FitsStore (flat_of design.now) last.entry.store × (suc last.entry.edge ≤ u64.MAX))) }
 {
     let Config {
         edge,
@@ -178,10 +176,10 @@ pub fn next<'a>(
         procs,
     } = last;
     let Some(edge) = edge.checked_add(1) else {
-        return Err(Trouble::Budget);
+        return Err(Trouble::Unsound);
     };
     let procs = all_woken(alloc, procs)?;
-    let nets = settled_nets(alloc, design, row, store.as_slice(), budget)?;
+    let nets = settled_nets(alloc, design, row, store.as_slice())?;
     Ok(Config {
         edge,
         row,

@@ -1,11 +1,11 @@
 //! What is seen of an edge.
-ghost use Rattle.std.specs.Prelude.{◌≡◌, ℕ, All, map, IfOk, IfErr, ◌≤◌, ◌^◌};
+ghost use Rattle.std.specs.Prelude.{◌≡◌, ℕ, All, length, map, IfOk, IfErr, ◌≤◌, ◌*◌, ◌^◌};
 ghost use Rattle.el_design.specs.Run as spec;
 ghost use Rattle.el_design.specs.Ticks as ticks;
 ghost use Rattle.el_design.specs.View.{flat_of};
 ghost use Rattle.ev_run.specs.Simulated.{process_seen, call_seen, config_seen, seen_seen};
 ghost use Rattle.el_design.specs.Sound.{IsSound, IsNet, HasSource};
-ghost use Rattle.ev_run.specs.Fitting.{Fails, GivesUp, FitsConfig};
+ghost use Rattle.ev_run.specs.Fitting.{Fails};
 
 use crate::operators::Trouble;
 use crate::processes::{Call, Process};
@@ -71,40 +71,32 @@ fn calls_of(alloc: Global, procs: &[Process]) -> Result<Vec<Items<Call>>, Troubl
 }
 
 /// The ticks of a process's calls with these delays.
-fn busy(delays: &[u32]) -> Result<u128, Trouble>
-    ensures gives { IfOk result (λ n. n ≡ ticks.busy delays.now) }
-    ensures failed { IfErr result (λ t. GivesUp t (Unit {0}) (2 ^ 128 ≤ ticks.busy delays.now)) }
+fn busy(delays: &[u32]) -> u128
+    ensures value { result ≡ ticks.busy delays.now }
+    ensures bound { result ≤ length delays.now * 2 ^ 32 }
 {
     match delays {
-        [] => Ok(0),
-        [delay, rest @ ..] => {
-            let more = busy(rest)?;
-            more.checked_add(*delay as u128 + 1).ok_or(Trouble::Budget)
-        }
+        [] => 0,
+        [delay, rest @ ..] => busy(rest) + *delay as u128 + 1,
     }
 }
 
 /// The longest of the processes.
-fn longest(procs: &[Process]) -> Result<u128, Trouble>
-    ensures gives { IfOk result (λ n. n ≡ ticks.longest (map (λ p. p.delays) (map process_seen procs.now))) }
-    ensures failed { IfErr result (λ t. GivesUp t (Unit {0}) (2 ^ 128 ≤ ticks.longest (map (λ p. p.delays) (map process_seen procs.now)))) }
+fn longest(procs: &[Process]) -> u128
+    ensures value { result ≡ ticks.longest (map (λ p. p.delays) (map process_seen procs.now)) }
+    ensures bound { result ≤ 2 ^ 96 }
 {
     match procs {
-        [] => Ok(0),
-        [process, rest @ ..] => {
-            let first = busy(process.delays.as_slice())?;
-            let more = longest(rest)?;
-            Ok(if first < more { more } else { first })
-        }
+        [] => 0,
+        [process, rest @ ..] => busy(process.delays.as_slice()).max(longest(rest)),
     }
 }
 
 /// The ticks of the edge.
-fn ticks_of(procs: &[Process]) -> Result<u128, Trouble>
-    ensures gives { IfOk result (λ n. n ≡ ticks.ticks_of (map (λ p. p.delays) (map process_seen procs.now))) }
-    ensures failed { IfErr result (λ t. GivesUp t (Unit {0}) (2 ^ 128 ≤ ticks.ticks_of (map (λ p. p.delays) (map process_seen procs.now)))) }
+fn ticks_of(procs: &[Process]) -> u128
+    ensures { result ≡ ticks.ticks_of (map (λ p. p.delays) (map process_seen procs.now)) }
 {
-    longest(procs)?.checked_add(1).ok_or(Trouble::Budget)
+    longest(procs) + 1
 }
 
 #[tactic(auto, using(crate::proofs::Lookups::got_net))]
@@ -152,15 +144,17 @@ fn pins_of(
 /// What is seen of an edge that came to rest.
 pub fn rest_seen(alloc: Global, design: &Design, config: &Config) -> Result<Seen, Trouble>
     ensures gives { IfOk result (λ x. seen_seen x ≡ spec.rest_seen (flat_of design.now) (config_seen config.now)) }
-    ensures failed { IfErr result (λ t. GivesUp t (IsSound (flat_of design.now) × FitsConfig (flat_of design.now) (config_seen config.now)) (2 ^ 128 ≤ ticks.ticks_of (map (λ p. p.delays) (config_seen config.now).procs))) }
+    ensures failed { IfErr result (λ t. Fails t (IsSound (flat_of design.now))) }
 {
     let procs = config.procs.as_slice();
     let calls = Items::from_vec(calls_of(alloc, procs)?);
     let pins = Items::from_vec(pins_of(alloc, design, config, design.outputs.as_slice())?);
-    let ticks = ticks_of(procs)?;
     Ok(Seen {
         calls,
-        ending: Ending::Rested { ticks, pins },
+        ending: Ending::Rested {
+            ticks: ticks_of(procs),
+            pins,
+        },
     })
 }
 

@@ -1,15 +1,15 @@
 use Rattle.std.proofs.Common.{◌≡◌, IfOk, sym, ◌∙◌, subst}
 use Rattle.el_design.specs.View.{expr_of, statement_of}
 use Rattle.ev_run.specs.Simulated.{flat_seen, scene_seen}
-use Rattle.ev_run.proofs.Failing.{handed_on, err_less}
+use Rattle.ev_run.proofs.Stopping.{fails_on, fails_if}
 use Rattle.ev_run.proofs.Doing.{other_chosen, arm_passed, labels_here, labels_after}
 use Rattle.ev_run.proofs.acts.+arm_chosen.Goals as goal
 
 pub returns-in_err-has_label-in-len1-up-clause-failed : goal.returns-in_err-has_label-in-len1-up-clause-failed
 returns-in_err-has_label-in-len1-up-clause-failed t c =
-    handed_on _ _ _ _
+    fails_on _ _ _ _ c.from_residual.ensures.1
     (λ h. (h.0, h.1, h.2, labels_here (flat_seen c.args.scene.now) (expr_of c.args.on.now) c.args.arms.now c.arm-item.result c.as_slice.result.now (statement_of c.args.other.now) c.in-len1-up.len_at_least c.arm-item.is c.as_slice.ensures h.3))
-    c.in_err-has_label-in-len1-up.ensures.failed c.from_residual.ensures.1
+    c.in_err-has_label-in-len1-up.ensures.failed
 
 pub returns-in-empty-clause-gives : goal.returns-in-empty-clause-gives
 returns-in-empty-clause-gives t c =
@@ -26,6 +26,6 @@ returns-else-branch-clause-gives t c =
 
 pub returns-else-branch-clause-failed : goal.returns-else-branch-clause-failed
 returns-else-branch-clause-failed t c =
-    err_less _ _ _
+    fails_if _ _ _
     (λ h. (h.0, h.1, h.2, labels_after (flat_seen c.args.scene.now) (expr_of c.args.on.now) c.args.arms.now (statement_of c.args.other.now) c.in-len1-up.len_at_least h.3))
     c.arm_chosen.ensures.failed

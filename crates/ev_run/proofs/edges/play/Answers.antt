@@ -3,6 +3,7 @@ use Rattle.el_design.specs.View.{flat_of}
 use Rattle.ev_run.specs.Simulated.{config_seen}
 use Rattle.ev_run.proofs.Playing.{played_more, played_fits, played_on, ready_taken}
 use Rattle.ev_run.proofs.Stopping.{stops_on_fails}
+use Rattle.ev_run.proofs.Queueing.{config_scene}
 use Rattle.ev_run.proofs.edges.play.Goals as goal
 
 pub loop-event-preserved : goal.loop-event-preserved
@@ -24,8 +25,10 @@ loop-event-preserved c =
 
 pub returns-in_err-events-clause-failed : goal.returns-in_err-events-clause-failed
 returns-in_err-events-clause-failed c =
+    let d = flat_of c.args.design.now in
+    let now = config_seen c.loop-event.config in
     stops_on_fails _ _ _ _ _ c.from_residual.ensures.1
-    (played_fits (flat_of c.args.design.now) c.args.pick.now (config_seen c.args.config.now) (config_seen c.loop-event.config) c.loop-event.taken.items (c.loop-event.invariant.taken c.args.pick.now 0 refl).0)
+    (λ g. config_scene d now (played_fits d c.args.pick.now (config_seen c.args.config.now) now c.loop-event.taken.items (c.loop-event.invariant.taken c.args.pick.now 0 refl).0 g))
     c.in_err-events.ensures.failed
 
 pub returns-in_err-take-clause-failed : goal.returns-in_err-take-clause-failed

@@ -4,7 +4,7 @@ use Rattle.el_design.specs.View.{lvalue_of}
 use Rattle.el_design.specs.Store.{spot_variable, put_all}
 use Rattle.ev_run.specs.Fitting.{IsDeclared, FitsOutput}
 use Rattle.ev_run.proofs.Outputs.{out_step}
-use Rattle.ev_run.proofs.Failing.{handed_on}
+use Rattle.ev_run.proofs.Stopping.{fails_on}
 use Rattle.ev_run.proofs.Copying.{first_pair, more_pairs, copy_holds, copy_fits}
 use Rattle.ev_run.proofs.enables.+copied_out.Goals as goal
 
@@ -21,30 +21,30 @@ returns-in_ok-more-in-len1-up-outs-clause-gives t c =
 pub returns-in_err-writes-in-len1-up-outs-clause-failed : goal.returns-in_err-writes-in-len1-up-outs-clause-failed
 returns-in_err-writes-in-len1-up-outs-clause-failed t c =
     let d = flat_seen c.args.scene.now in
-    handed_on _ _ _ _
+    fails_on _ _ _ _ c.from_residual.ensures.1
     (λ h. let own = first_pair (λ x. IsDeclared d x.0 × FitsOutput d x.1) lvalue_of c.args.formals.now c.args.outs.now 0 c.target-item.result c.in-len1-up.len_at_least c.in-len1-up-outs.len_at_least c.target-item.is h.2 in
     (h.0, h.1, own.0, own.1))
-    c.in_err-writes-in-len1-up-outs.ensures.failed c.from_residual.ensures.1
+    c.in_err-writes-in-len1-up-outs.ensures.failed
 
 pub returns-in_err-store-in-len1-up-outs-clause-failed : goal.returns-in_err-store-in-len1-up-outs-clause-failed
 returns-in_err-store-in-len1-up-outs-clause-failed t c =
     let d = flat_seen c.args.scene.now in
     let s = scene_seen c.args.scene.now in
-    handed_on _ _ _ _
+    fails_on _ _ _ _ c.from_residual-in_err-store-in-len1-up-outs.ensures.1
     (λ h. let own = first_pair (λ x. IsDeclared d x.0 × FitsOutput d x.1) lvalue_of c.args.formals.now c.args.outs.now 0 c.target-item.result c.in-len1-up.len_at_least c.in-len1-up-outs.len_at_least c.target-item.is h.2 in
     subst (λ xs. All (λ w. spot_variable w.spot < length s.store) (writes_seen xs)) (sym c.as_slice.ensures.value)
     (copy_holds d h.0 s (lvalue_of c.target-item.result) _ _ (writes_seen c.in_ok-writes-in-len1-up-outs.writes.items) h.1 own.1 c.in_ok-writes-in-len1-up-outs.ensures.gives))
-    c.in_err-store-in-len1-up-outs.ensures.failed c.from_residual-in_err-store-in-len1-up-outs.ensures.1
+    c.in_err-store-in-len1-up-outs.ensures.failed
 
 pub returns-in_err-more-in-len1-up-outs-clause-failed : goal.returns-in_err-more-in-len1-up-outs-clause-failed
 returns-in_err-more-in-len1-up-outs-clause-failed t c =
     let d = flat_seen c.args.scene.now in
     let s = scene_seen c.args.scene.now in
-    handed_on _ _ _ _
+    fails_on _ _ _ _ c.from_residual-in_err-more-in-len1-up-outs.ensures.1
     (λ h. let own = first_pair (λ x. IsDeclared d x.0 × FitsOutput d x.1) lvalue_of c.args.formals.now c.args.outs.now 0 c.target-item.result c.in-len1-up.len_at_least c.in-len1-up-outs.len_at_least c.target-item.is h.2 in (
       h.0,
       copy_fits d h.0 s (lvalue_of c.target-item.result) _ _ (writes_seen c.in_ok-writes-in-len1-up-outs.writes.items) c.as_slice-in-len1-up-outs.result.now h.1 own.1 c.in_ok-writes-in-len1-up-outs.ensures.gives
           (c.as_slice-in-len1-up-outs.ensures ∙ c.in_ok-store-in-len1-up-outs.ensures.gives ∙ ap (λ xs. put_all s.store (writes_seen xs)) c.as_slice.ensures.value),
       more_pairs (λ x. IsDeclared d x.0 × FitsOutput d x.1) lvalue_of c.args.formals.now c.args.outs.now c.in-len1-up.len_at_least c.in-len1-up-outs.len_at_least h.2,
     ))
-    c.in_err-more-in-len1-up-outs.ensures.failed c.from_residual-in_err-more-in-len1-up-outs.ensures.1
+    c.in_err-more-in-len1-up-outs.ensures.failed

@@ -6,4 +6,4 @@ use Rattle.ev_run.proofs.nets.net_aim.Goals as goal
 
 pub returns-in-None-clause-gives : goal.returns-in-None-clause-gives
 returns-in-None-clause-gives c =
-    aim_pin c.pin_value.result (flat_seen c.args.scene.now) c.args.row.now (scene_seen c.args.scene.now) c.args.at (net_of c.args.net.now) c.as_slice.result.now (ap (option_map expr_of) c.in-None.is) c.as_slice.ensures c.pin_value.ensures.gives
+    aim_pin c.pin_value.result (flat_seen c.args.scene.now) c.args.row.now (scene_seen c.args.scene.now) c.args.at (net_of c.args.net.now) (ap (option_map expr_of) c.in-None.is) c.pin_value.ensures.gives

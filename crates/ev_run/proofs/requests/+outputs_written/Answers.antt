@@ -5,7 +5,7 @@ use Rattle.el_design.specs.Sound.{IsWidth}
 use Rattle.el_design.specs.Store.{spot_variable, put_all}
 use Rattle.ev_run.specs.Fitting.{FitsOutput}
 use Rattle.ev_run.proofs.Outputs.{reply_step}
-use Rattle.ev_run.proofs.Failing.{handed_on}
+use Rattle.ev_run.proofs.Stopping.{fails_on}
 use Rattle.ev_run.proofs.Copying.{first_pair, more_pairs, one_less, copy_holds, copy_fits}
 use Rattle.ev_run.proofs.requests.+outputs_written.Goals as goal
 
@@ -23,26 +23,26 @@ returns-in_ok-more-in-len1-up-outs-clause-gives t c =
 pub returns-in_err-writes-in-len1-up-outs-clause-failed : goal.returns-in_err-writes-in-len1-up-outs-clause-failed
 returns-in_err-writes-in-len1-up-outs-clause-failed t c =
     let d = flat_seen c.args.scene.now in
-    handed_on _ _ _ _
+    fails_on _ _ _ _ c.from_residual.ensures.1
     (λ h. let own = first_pair (λ x. IsWidth x.0.width × FitsOutput d x.1) lvalue_of c.args.ports.now c.args.outs.now (record { width = 0; signed = false }) c.target-item.result c.in-len1-up.len_at_least c.in-len1-up-outs.len_at_least c.target-item.is h.4 in
     (h.0, h.1, own.0, own.1))
-    c.in_err-writes-in-len1-up-outs.ensures.failed c.from_residual.ensures.1
+    c.in_err-writes-in-len1-up-outs.ensures.failed
 
 pub returns-in_err-store-in-len1-up-outs-clause-failed : goal.returns-in_err-store-in-len1-up-outs-clause-failed
 returns-in_err-store-in-len1-up-outs-clause-failed t c =
     let d = flat_seen c.args.scene.now in
     let s = scene_seen c.args.scene.now in
-    handed_on _ _ _ _
+    fails_on _ _ _ _ c.from_residual-in_err-store-in-len1-up-outs.ensures.1
     (λ h. let own = first_pair (λ x. IsWidth x.0.width × FitsOutput d x.1) lvalue_of c.args.ports.now c.args.outs.now (record { width = 0; signed = false }) c.target-item.result c.in-len1-up.len_at_least c.in-len1-up-outs.len_at_least c.target-item.is h.4 in
     subst (λ xs. All (λ w. spot_variable w.spot < length s.store) (writes_seen xs)) (sym c.as_slice.ensures.value)
     (copy_holds d h.0 s (lvalue_of c.target-item.result) _ _ (writes_seen c.in_ok-writes-in-len1-up-outs.writes.items) h.1 own.1 c.in_ok-writes-in-len1-up-outs.ensures.gives))
-    c.in_err-store-in-len1-up-outs.ensures.failed c.from_residual-in_err-store-in-len1-up-outs.ensures.1
+    c.in_err-store-in-len1-up-outs.ensures.failed
 
 pub returns-in_err-more-in-len1-up-outs-clause-failed : goal.returns-in_err-more-in-len1-up-outs-clause-failed
 returns-in_err-more-in-len1-up-outs-clause-failed t c =
     let d = flat_seen c.args.scene.now in
     let s = scene_seen c.args.scene.now in
-    handed_on _ _ _ _
+    fails_on _ _ _ _ c.from_residual-in_err-more-in-len1-up-outs.ensures.1
     (λ h. let own = first_pair (λ x. IsWidth x.0.width × FitsOutput d x.1) lvalue_of c.args.ports.now c.args.outs.now (record { width = 0; signed = false }) c.target-item.result c.in-len1-up.len_at_least c.in-len1-up-outs.len_at_least c.target-item.is h.4 in (
       h.0,
       copy_fits d h.0 s (lvalue_of c.target-item.result) _ _ (writes_seen c.in_ok-writes-in-len1-up-outs.writes.items) c.as_slice-in-len1-up-outs.result.now h.1 own.1 c.in_ok-writes-in-len1-up-outs.ensures.gives
@@ -52,4 +52,4 @@ returns-in_err-more-in-len1-up-outs-clause-failed t c =
       more_pairs (λ x. IsWidth x.0.width × FitsOutput d x.1) lvalue_of c.args.ports.now c.args.outs.now c.in-len1-up.len_at_least c.in-len1-up-outs.len_at_least h.4,
       one_less c.args.ports.now c.args.item c.in-Some.next _ c.in-len1-up.len_at_least c.in-Some.ensures.1 h.5,
     ))
-    c.in_err-more-in-len1-up-outs.ensures.failed c.from_residual-in_err-more-in-len1-up-outs.ensures.1
+    c.in_err-more-in-len1-up-outs.ensures.failed

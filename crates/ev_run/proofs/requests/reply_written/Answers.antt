@@ -3,7 +3,7 @@ use Rattle.el_design.specs.View.{lvalue_of}
 use Rattle.el_design.specs.Sound.{IsWidth}
 use Rattle.ev_run.specs.Simulated.{flat_seen}
 use Rattle.ev_run.specs.Fitting.{FitsOutput}
-use Rattle.ev_run.proofs.Failing.{err_less}
+use Rattle.ev_run.proofs.Stopping.{fails_if}
 use Rattle.ev_run.proofs.Copying.{reply_fits, few_outputs}
 use Rattle.ev_run.proofs.requests.reply_written.Goals as goal
 
@@ -11,7 +11,7 @@ pub returns-in-Some-result-clause-failed : goal.returns-in-Some-result-clause-fa
 returns-in-Some-result-clause-failed c =
     let d = flat_seen c.args.scene.now in
     let outs = map lvalue_of c.args.outs.now in
-    err_less _ _ _
+    fails_if _ _ _
     (λ h. let fit = reply_fits d h.0 c.args.import c.in-Some.declared.now (Some c.in-Some-result.port) (option_map lvalue_of c.args.to.now) outs (sym c.in-Some.ensures.value) c.in-Some-result.is h.2 in (
       h.0,
       h.1,
@@ -26,7 +26,7 @@ pub returns-in-None-clause-failed : goal.returns-in-None-clause-failed
 returns-in-None-clause-failed c =
     let d = flat_seen c.args.scene.now in
     let outs = map lvalue_of c.args.outs.now in
-    err_less _ _ _
+    fails_if _ _ _
     (λ h. let fit = reply_fits d h.0 c.args.import c.in-Some.declared.now None (option_map lvalue_of c.args.to.now) outs (sym c.in-Some.ensures.value) c.in-None.is h.2 in (
       h.0,
       h.1,

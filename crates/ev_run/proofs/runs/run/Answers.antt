@@ -1,14 +1,12 @@
-use Rattle.std.proofs.Common.{◌≡◌, ◌+◌, ◌-◌, ◌∷◌, length, take, drop, ap, sym, refl, subst, ◌∙◌, zero-add}
+use Rattle.std.proofs.Common.{rules, ◌≡◌, ◌≤◌, ◌+◌, ◌-◌, ◌∷◌, length, take, drop, ap, sym, refl, subst, ◌∙◌, zero-add}
 use Rattle.std.proofs.lemmas.List.{length-map}
-use Rattle.el_design.specs.Run.{Picked, Starts, Goes, RunsBy}
-use Rattle.el_design.specs.Store.{start_store}
-use Rattle.el_design.specs.Laws.{EdgeBegins, first_edge}
+use Rattle.el_design.specs.Run.{Picked, Starts, Goes, RunsBy, pick_after}
 use Rattle.el_design.specs.View.{flat_of}
 use Rattle.ev_run.specs.Simulated.{config_seen, rows_seen, event_seen, events_seen, stimulus_seen, plays_seen, trace_seen}
-use Rattle.ev_run.proofs.Playing.{rows_split, if_both, begun, takes_any}
-use Rattle.ev_run.specs.Fitting.{first_settles, unsettled, eventful}
-use Rattle.ev_run.proofs.Overrunning.{edge_fits, settles_fit}
-use Rattle.ev_run.proofs.Stopping.{stops_on}
+use Rattle.ev_run.proofs.Playing.{rows_split, if_both, begun}
+use Rattle.ev_run.specs.Fitting.{ComesTo, to_first}
+use Rattle.ev_run.proofs.Overrunning.{edge_fits, first_fits, over_edge, rows_few}
+use Rattle.ev_run.proofs.Stopping.{stops_on, stops_on_fails}
 use Rattle.ev_run.proofs.runs.run.Goals as goal
 
 pub returns-in_ok-go_on-in-len1-up-clause-gives : goal.returns-in_ok-go_on-in-len1-up-clause-gives
@@ -44,8 +42,7 @@ returns-in_err-config-in-len1-up-clause-failed c =
     let row = c.as_slice.result.now in
     let more = rows_seen (take (length rows - 1) (drop 1 rows)) in
     let split : rows_seen rows ≡ row ∷ more = ap rows_seen (rows_split rows c.row-item.result c.in-len1-up.len_at_least c.row-item.is) ∙ ap (λ r. r ∷ more) (sym c.as_slice.ensures.value) in
-    stops_on _ _ _ _ _ _ c.from_residual.ensures.1 (λ g. (g.0, (settles_fit d x g.0 g.1 row (start_store d) (first_settles split refl)).0))
-    (unsettled row (start_store d) (first_settles split refl)) c.in_err-config-in-len1-up.ensures.failed
+    stops_on_fails _ _ _ _ _ c.from_residual.ensures.1 (first_fits d x c.args.pick row more split) c.in_err-config-in-len1-up.ensures.failed
 
 pub returns-in_err-events-in-len1-up-clause-failed : goal.returns-in_err-events-in-len1-up-clause-failed
 returns-in_err-events-in-len1-up-clause-failed c =
@@ -56,8 +53,9 @@ returns-in_err-events-in-len1-up-clause-failed c =
     let more = rows_seen (take (length rows - 1) (drop 1 rows)) in
     let split : rows_seen rows ≡ row ∷ more = ap rows_seen (rows_split rows c.row-item.result c.in-len1-up.len_at_least c.row-item.is) ∙ ap (λ r. r ∷ more) (sym c.as_slice.ensures.value) in
     let begin = config_seen c.in_ok-config-in-len1-up.config in
-    let edge : EdgeBegins d x more begin = first_edge split (c.in_ok-config-in-len1-up.ensures.gives rows) in
-    stops_on _ _ _ _ _ _ c.from_residual-in_err-events-in-len1-up.ensures.1 (λ g. (g.0, (edge_fits d x g.0 g.1 more begin edge).0)) (λ o. eventful 0 more begin edge (o c.args.pick 0 refl)) c.in_err-events-in-len1-up.ensures.failed
+    let comes : ComesTo d x c.args.pick more 0 begin = to_first split (c.in_ok-config-in-len1-up.ensures.gives rows) in
+    stops_on _ _ _ _ _ _ c.from_residual-in_err-events-in-len1-up.ensures.1 (λ g. (g.0.0, (edge_fits d x c.args.pick g.0.0 g.1 comes).0))
+    (λ o. over_edge d x c.args.pick c.args.budget more 0 begin comes (o c.args.pick 0 refl)) c.in_err-events-in-len1-up.ensures.failed
 
 pub returns-in_err-go_on-in-len1-up-clause-failed : goal.returns-in_err-go_on-in-len1-up-clause-failed
 returns-in_err-go_on-in-len1-up-clause-failed c =
@@ -68,9 +66,10 @@ returns-in_err-go_on-in-len1-up-clause-failed c =
     let more = rows_seen (take (length rows - 1) (drop 1 rows)) in
     let split : rows_seen rows ≡ row ∷ more = ap rows_seen (rows_split rows c.row-item.result c.in-len1-up.len_at_least c.row-item.is) ∙ ap (λ r. r ∷ more) (sym c.as_slice.ensures.value) in
     let begin = config_seen c.in_ok-config-in-len1-up.config in
-    let edge : EdgeBegins d x more begin = first_edge split (c.in_ok-config-in-len1-up.ensures.gives rows) in
-    let end = config_seen c.play.new.config in
-    let taken = events_seen c.in_ok-events-in-len1-up.events.items in
+    let comes : ComesTo d x c.args.pick more 0 begin = to_first split (c.in_ok-config-in-len1-up.ensures.gives rows) in
+    let items = c.in_ok-events-in-len1-up.events.items in
     let played = c.in_ok-events-in-len1-up.ensures.taken c.args.pick 0 refl in
+    let counted = ap (λ n. pick_after c.args.pick (0 + n)) (sym (length-map items event_seen)) in
+    let few : length rows ≤ 18446744073709551615 = search rules in
     stops_on _ _ _ _ _ _ c.from_residual-in_err-go_on-in-len1-up.ensures.1 (λ g. g) (λ o. o)
-    (c.in_err-go_on-in-len1-up.ensures.failed x begin taken c.args.pick (0 + length c.in_ok-events-in-len1-up.events.items) edge (takes_any d (Picked c.args.pick) 0 0 begin taken end played.0) played.1)
+    (c.in_err-go_on-in-len1-up.ensures.failed x begin (events_seen items) c.args.pick 0 comes played.0 (played.1 ∙ counted) (rows_few rows _ few))
