@@ -1,4 +1,4 @@
--- A `forever`, which quiet steps bring back where its body has nothing but such steps; no public contract cites it. This project's own.
+-- A `forever`, which quiet steps may bring back; no public contract cites it. This project's own.
 use Rattle.std.specs.Prelude.{Bool, true, false}
 use Rattle.el_design.specs.Plain.{Forever}
 use Rattle.el_design.specs.Stack.{Work, Do}

@@ -1,5 +1,6 @@
 -- What fits a design: stores, values of nets, targets, work and states of a run; and what the error of a call tells. In a sound design whose
--- nets have an order, with what fits it, a call may end for want of memory, and one with a budget where that is used up, and for no other cause. All of it is this project's own.
+-- nets have an order, with what fits it, a call may end for want of memory, and one with a budget where that is used up, and for no other cause,
+-- if the number of the edge that is to come fits the program. All of it is this project's own.
 use Rattle.std.specs.Prelude.{◌≡◌, ◌≢◌, ◌⊎◌, ◌+◌, ℕ, List, ◌∷◌, ◌++◌, Some, All, length, slice_get}
 use Rattle.xt_bits.specs.Word.{Word}
 use Rattle.xt_bits.specs.Stimulus.{Stimulus}
@@ -58,7 +59,7 @@ IsWellMade d e = All (IsNode d) (nodes_of e)
 abbrev pub AreWellMade : Flat → List Expr → Type 0
 AreWellMade d es = All (IsWellMade d) es
 
--- the bounds of a range are in order and below 65,536, its width is in range, and the nodes of its index are well made
+-- the bounds of a part are in order and below 65,536, a width that is written is in range, and the nodes of the index are well made
 abbrev pub IsWellMadeRange : Flat → Range → Type 0
 IsWellMadeRange d r = IsRange r × All (IsNode d) (range_nodes r)
 

@@ -90,7 +90,7 @@ did_seen kinds.Replied = acts.Replied
 abbrev pub acted_seen : processes.Process → acteds.Acted → acts.Acted
 acted_seen p a = record { did = did_seen a.did; at = a.at; writes = map write_seen a.writes.items; process = process_seen p }
 
--- ---- nets: the values that they take from their expressions in a scene, which no public contract cites
+-- ---- nets: the values that they take in a scene, which no public contract cites
 
 -- those of numbered nets
 abbrev pub aims_of : Flat → List Word → values.Scene → List (ℕ × FlatNet) → List Word

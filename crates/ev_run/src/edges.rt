@@ -28,8 +28,8 @@ fn picked(pick: u64, events: &[Event]) -> Event
     events[(pick >> 33) as usize % events.len()]
 }
 
-/// Takes events while one may be taken, each as the pick gives it, fewer than `budget` says; where as many are taken, the
-/// answer is [`Trouble::Budget`] instead. The pick is then what it has come to.
+/// Takes events while one may be taken, each as the pick gives it, fewer than `budget` says; the pick is then what it has
+/// come to. Where as many as `budget` says are taken, the answer is [`Trouble::Budget`] instead.
 pub fn play<'a>(
     alloc: Global,
     design: &'a Design,

@@ -1,4 +1,4 @@
-//! The store in which a function's body runs.
+//! The store in which a function's body runs, and how many turns a `for` may take there.
 ghost use Rattle.std.specs.Prelude.{◌≡◌, ◌^◌, max, map, zip, fold, replicate, IfOk, OnOk, IfErr, All, ◌<◌, length};
 ghost use Rattle.xt_bits.specs.Word.{word};
 ghost use Rattle.el_design.specs.Function as spec;
@@ -89,7 +89,7 @@ pub fn entered(
     Ok(store)
 }
 
-/// How many values a variable has, which is more than a `for` with it takes turns.
+/// How many values a variable has. In a design that breaks no rule a `for` with it takes fewer turns.
 pub fn value_count(design: &Design, var: u32) -> Result<u128, Trouble>
     ensures gives { IfOk result (λ n. n ≡ 2 ^ stores.width_of (flat_of design.now) var) }
     ensures failed { IfErr result (λ t. Fails t (IsSound (flat_of design.now) × IsDeclared (flat_of design.now) var)) }

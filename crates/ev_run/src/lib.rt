@@ -1,6 +1,7 @@
 //! A plain simulator whose answers are the definitions, calls of functions too: slow, and a tool for tests. In a sound
-//! design whose nets have an order, with what fits it, each call has its answer but for want of memory. A run also has a
-//! budget: it ends without an answer where an edge has as many events.
+//! design whose nets have an order, with what fits it, each call has its answer but for want of memory. An edge and
+//! a run also have a budget: they end without an answer where an edge has as many events. After an error the state that
+//! was passed in is open.
 #![tactic(auto)]
 
 mod acts;

@@ -1,4 +1,4 @@
-//! Operators on values, each with a test that it may be used.
+//! Operators on values, with a test that they may be used where they need one.
 ghost use Rattle.std.specs.Prelude.{◌≡◌, ◌-◌, ◌≤◌, fold, IfOk, take, IfErr, ◌≢◌, ◌+◌, ◌*◌, ◌^◌, [], map, sum, pos, neg_ℤ, ◌≤ℤ◌};
 ghost use Rattle.xt_bits.specs.Word.{word, truth, integer_of};
 ghost use Rattle.xt_bits.specs.Operators.{concat_of, extend_of, select_of};

@@ -1,4 +1,4 @@
-//! The event queue: the state of a run, which events may be taken in it, and what an event does to it.
+//! The event queue: the state of a run, and which events may be taken in it.
 ghost use Rattle.std.specs.Prelude.{◌≡◌, ◌∷◌, ◌++◌, ◌&&◌, ◌+◌, ◌≤◌, length, drop, List, [], not, map, if◌then◌else◌, IfOk, IfErr, slice_get, Some};
 ghost use Rattle.std.specs.List.{list_any};
 ghost use Rattle.xt_bits.specs.Stimulus as stimuli;

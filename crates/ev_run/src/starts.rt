@@ -158,7 +158,7 @@ fn all_woken<'a>(alloc: Global, procs: Vec<Process<'a>>) -> Result<Vec<Process<'
     Ok(all)
 }
 
-/// How the next edge begins.
+/// How the next edge begins. The number of the last one must be below the greatest of a `u64`, as in a run it is.
 pub fn next<'a>(
     alloc: Global,
     design: &'a Design,
