@@ -1,5 +1,5 @@
 -- What files and streams hold, and what a load or a write leaves. All of it is this project's own.
-use Rattle.std.specs.Prelude.{◌≡◌, ◌<◌, ◌≤◌, ◌⊎◌, ℕ, List, [], ◌∷◌, ◌++◌, Option, Some, None, IfSome, IsSome, IsSomeAnd, length, take, bytes_eq, if◌then◌else◌}
+use Rattle.std.specs.Prelude.{◌≡◌, ◌+◌, nat_lt, ◌<◌, ◌≤◌, ◌⊎◌, ℕ, List, [], ◌∷◌, ◌++◌, Option, Some, None, IfSome, IsSome, IsSomeAnd, length, take, bytes_eq, if◌then◌else◌}
 use Rattle.xt_base.specs.declared.outside.Load.{Load}
 use Rattle.xt_base.specs.declared.outside.Load.TheVariants as answers
 
@@ -19,6 +19,10 @@ max_file = 268435456
 -- the last value of a count of faults, at which it stays
 abbrev pub last_count : ℕ
 last_count = 18446744073709551615
+
+-- a count after one more, which stays at its last value
+abbrev pub after_one : ℕ → ℕ
+after_one count = if nat_lt count last_count then count + 1 else last_count
 
 -- a fault was counted: the count rose, or stands at its last value
 abbrev pub HasFault : ℕ → ℕ → Type 0

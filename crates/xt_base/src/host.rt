@@ -111,7 +111,8 @@ pub struct HostSink {
 impl HostSink {
     /// The stream, with no fault so far.
     pub fn new(rt: HostRuntime, stream: Stream) -> HostSink
-        ensures { result.faults ≡ 0 }
+        ensures faults { result.faults ≡ 0 }
+        ensures stream { result.stream ≡ stream }
     {
         HostSink {
             rt,

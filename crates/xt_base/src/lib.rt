@@ -1,6 +1,7 @@
 //! What every crate of the compiler speaks of: names, places, refusals, and the files and streams outside.
 #![tactic(auto)]
 
+mod finder;
 mod host;
 mod identifiers;
 mod memory;
@@ -9,6 +10,7 @@ mod outside;
 mod refusals;
 mod reserved;
 
+pub use finder::{Finder, first_is_one, stands_before};
 pub use host::{HostFiles, HostSink, Stream};
 pub use identifiers::{begins_word, is_identifier, is_in_word, is_word};
 pub use memory::{MemFiles, MemSink};
@@ -25,6 +27,3 @@ pub const MAX_WIDTH: u32 = 64;
 
 /// The greatest length of a file that is loaded, in bytes.
 pub const MAX_FILE: usize = 268_435_456;
-
-#[cfg(test)]
-mod tests;

@@ -1,6 +1,6 @@
 //! Files and a stream in memory, whose loads and writes fail where a list says so.
 ghost use Rattle.std.specs.Prelude.{◌≡◌, ◌≢◌, ◌+◌, ◌-◌, ◌≤◌, ◌<◌, ◌++◌, ◌∷◌, ◌↔◌, ◌⊎◌, [], List, Option, Some, None, ℕ, IfOk, OnOk, OnErr, IfSome, Contains, length, take, string_bytes, vec_len, vec_capacity, map, IsSome, IsNone, MatchOption};
-ghost use Rattle.xt_base.specs.Outside.{Held, appended, bytes_of, HasFault, Gives, AppendsPrefix, IsAsked, IsAbsent, IsTooLong};
+ghost use Rattle.xt_base.specs.Outside.{Held, appended, bytes_of, HasFault, Gives, AppendsPrefix, IsAsked, IsAbsent, IsTooLong, after_one};
 
 use crate::MAX_FILE;
 use crate::outside::{Files, Load, Sink, Wrote};
@@ -131,8 +131,11 @@ impl Files for MemFiles {
         ensures too_long { result ≡ Load.TooLong → IsTooLong (Some self.old.held) name.now }
         ensures unchanged { result ≢ Load.Loaded → into.new.items ≡ into.old.items }
 
-        // It fails exactly where its number is listed.
+        // It fails exactly where its number is listed, and each load counts, whatever it answers.
         ensures listed { result ≢ Load.Memory → (result ≡ Load.Failed) ↔ Contains self.old.fail self.old.loads }
+        ensures counted { self.new.loads ≡ after_one self.old.loads }
+        ensures fault_counted { result ≡ Load.Failed → self.new.faults ≡ after_one self.old.faults }
+        ensures kept { self.new.fail ≡ self.old.fail }
     {
         let number = self.loads;
         self.loads = number.saturating_add(1);
@@ -231,10 +234,14 @@ impl Sink for MemSink {
         ensures failed { result ≡ Wrote.Failed → AppendsPrefix (Some self.old.written) piece.now (Some self.new.written) }
         ensures fault { result ≡ Wrote.Failed → HasFault self.old.faults self.new.faults }
 
-        // It fails exactly where its number is listed or the piece doesn't fit.
+        // It fails exactly where its number is listed or the piece doesn't fit, and each write counts.
+        // A listed write appends nothing, any other as much of the piece as fits.
         ensures listed { (result ≡ Wrote.Failed) ↔ (Contains self.old.fail self.old.writes ⊎ (self.old.capacity < length self.old.written + length piece.now)) }
         ensures nothing { Contains self.old.fail self.old.writes → self.new.written ≡ self.old.written }
-        ensures fits { self.new.written ≡ self.old.written ⊎ (self.new.written ≡ self.old.written ++ take (self.old.capacity - length self.old.written) piece.now) }
+        ensures fits { (Contains self.old.fail self.old.writes → ⊥) → self.new.written ≡ self.old.written ++ take (self.old.capacity - length self.old.written) piece.now }
+        ensures counted { self.new.writes ≡ after_one self.old.writes }
+        ensures fault_counted { result ≡ Wrote.Failed → self.new.faults ≡ after_one self.old.faults }
+        ensures kept { (self.new.capacity ≡ self.old.capacity) × (self.new.fail ≡ self.old.fail) }
     {
         let number = self.writes;
         self.writes = number.saturating_add(1);

@@ -16,7 +16,7 @@ use xt_base::{Item, MAX_WIDTH};
 /// A vector of `width` bits, from 1 to `MAX_WIDTH`, whose value is below 2 to the power of the width.
 ///
 /// Contracts see it as the plain record `Word` of the two. No operation takes memory or refuses.
-#[derive(Clone, Copy, Debug, PartialEq, Eq)]
+#[derive(Clone, Copy, Debug, PartialEq, Eq, Hash)]
 pub struct Bits {
     width: u32,
     value: Item,
@@ -65,6 +65,3 @@ impl Bits {
         self.value
     }
 }
-
-#[cfg(test)]
-mod tests;

@@ -1,5 +1,0 @@
-use Rattle.std.proofs.Common.{length}
-use Rattle.ev_run.proofs.writes.+total_width.Given as goal
-
-abbrev pub decreases-total_width : goal.decreases-total_width
-decreases-total_width l = length l.spots.now

@@ -1,3 +1,0 @@
-pub mod Simulated
-pub mod Fitting
-pub mod Endless
