@@ -45,8 +45,8 @@ var_is v s = ap (λ k. kind_of k s) (sym (kinds.rolls-Var v)) ∙ ap (λ f. f s)
 pub word_is : (v : ℕ) (i : TExpr) (s : Shape) → kind_of (kind.Word v i) s ≡ plain.MemoryWord s v (expr_of i)
 word_is v i s = ap (λ k. kind_of k s) (sym (kinds.rolls-Word v i)) ∙ ap (λ f. f s) (fold-roll-Kind (Shape → Expr) Range Expr kind_step pick_step expr_step (Kind-F.Word v i))
 
-pub select_is : (e : TExpr) (p : Pick) (s : Shape) → kind_of (kind.Select e p) s ≡ plain.Select s (expr_of e) (range_of p)
-select_is e p s = ap (λ k. kind_of k s) (sym (kinds.rolls-Select e p)) ∙ ap (λ f. f s) (fold-roll-Kind (Shape → Expr) Range Expr kind_step pick_step expr_step (Kind-F.Select e p))
+pub select_is : (e : TExpr) (p : Pick) (lsb : ℕ) (s : Shape) → kind_of (kind.Select e p lsb) s ≡ plain.Select s (expr_of e) (range_of p) lsb
+select_is e p lsb s = ap (λ k. kind_of k s) (sym (kinds.rolls-Select e p lsb)) ∙ ap (λ f. f s) (fold-roll-Kind (Shape → Expr) Range Expr kind_step pick_step expr_step (Kind-F.Select e p lsb))
 
 pub unary_is : (op : UnOp) (e : TExpr) (s : Shape) → kind_of (kind.Unary op e) s ≡ plain.Unary s op (expr_of e)
 unary_is op e s = ap (λ k. kind_of k s) (sym (kinds.rolls-Unary op e)) ∙ ap (λ f. f s) (fold-roll-Kind (Shape → Expr) Range Expr kind_step pick_step expr_step (Kind-F.Unary op e))

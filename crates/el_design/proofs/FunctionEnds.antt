@@ -15,16 +15,17 @@ use Rattle.el_design.specs.Function.{times, while_up, body_scene, assigned, body
 use Rattle.el_design.specs.Names.{is_constant, target_variables}
 use Rattle.el_design.specs.Purity.{is_foreign, variables_of}
 use Rattle.el_design.specs.InPlace.{Stands, itself, in_first, in_rest, in_block, in_named, in_then, in_else, in_case, in_arm, in_others, in_for, in_while, in_repeat, in_forever, LoopAt, loop_of_function}
-use Rattle.el_design.specs.Turns.{fixed, holds, stored_by, turned, goes_on, IsFreeOf, IsCounted, HasTurns, of_while, IsConstantLoop, body_of}
+use Rattle.el_design.specs.Turns.{fixed, holds, stored_by, turned, goes_on, IsFreeOf, IsCounted, HasBound, bound_repeat, bound_while, body_of}
 use Rattle.el_design.specs.Walk.{is_constant_case, HasWalk}
 use Rattle.el_design.specs.Calls.{foreign, in_function}
 use Rattle.el_design.specs.Rules.{max_turns, loop_spins, too_many, without_end, spins, turns, impure, disables, recursive, IsClean, IsCleanBefore}
 use Rattle.el_design.specs.Sound.{IsPlainVariable, IsStatement, arms_fit, IsSound}
 use Rattle.el_design.specs.Bodies.{EndsWithin, Turns, Ends, FunctionsEnd}
 use Rattle.el_design.specs.Alone.{Doing, Setting, setting}
+use Rattle.el_design.proofs.Texts.{free_met}
 use Rattle.el_design.proofs.OrderFoot.{constant_same}
 use Rattle.el_design.proofs.OrderRule.{split, IsShaped, shaped_all, empty_shaped, one_word, takes_value, turned_shaped, turn_first, turn_next, turn_test}
-use Rattle.el_design.proofs.OrderWalk.{Surely}
+use Rattle.el_design.proofs.Bounds.{Surely, IsConstantLoop, constant_for}
 use Rattle.el_design.proofs.OrderWrites.{WritesIn, writes_in, kept_all}
 use Rattle.el_design.proofs.OrderSane.{In}
 use Rattle.el_design.proofs.OrderDepth.{Apart, Below, few}
@@ -32,7 +33,7 @@ use Rattle.el_design.proofs.OrderPlaces.{con_got, con_map}
 use Rattle.el_design.proofs.OrderLists.{con_head, con_nil, con_cases}
 use Rattle.el_design.proofs.Ways.{Ways, Past, is_zero, turning, repeating, fors, may, Mode, Lone, Any, Fixed, mode_of, all_ways}
 use Rattle.el_design.proofs.WaysPuts.{first_of, second_of, left_of, right_of, both_are, true_or_false, clash, is_counted}
-use Rattle.el_design.proofs.WaysFound.{go_may, loops, free_for, constant_for, for_is, repeat_is, walk_found}
+use Rattle.el_design.proofs.WaysFound.{go_may, loops, free_for, for_is, walk_found}
 use Rattle.el_design.proofs.WaysBack.{choose_first, choose_second}
 use Rattle.el_design.proofs.Counts.{first_off, IsOff, Finds, finds, in_text}
 
@@ -215,7 +216,7 @@ module _ (d : Flat) (sound : IsSound d) (clean : IsClean d) where
   walk_of : (marks : List ℕ) (body : Statement) → Within marks body → out Lone marks body Past ≡ true → Surely (HasWalk d marks body)
   walk_of marks body f h = walk_found d before marks body (in_place marks body f) h
 
-  never_free : (marks : List ℕ) (x body : Statement) → LoopAt d marks x → body_of x ≡ Some body → Within marks body → out Lone marks body Past ≡ true → (IsConstantLoop d x → ⊥) → ⊥
+  never_free : (marks : List ℕ) (x body : Statement) → LoopAt d marks x → body_of x ≡ Some body → Within marks body → out Lone marks body Past ≡ true → (HasBound d x → ⊥) → ⊥
   never_free marks x body l b f h n = walk_of marks body f h (λ w. clean 12 61 _ (spins (loop_spins l b n w)))
 
   for_counted : (marks : List ℕ) (at : Place) (v : ℕ) (first test next : Expr) (body : Statement) → Within marks (For at v first test next body) → out Lone marks body Past ≡ true → loops d before v first test next body ≡ true
@@ -225,44 +226,32 @@ module _ (d : Flat) (sound : IsSound d) (clean : IsClean d) where
       go (inl e) = e
       go (inr e) = absurd (never_free marks (For at v first test next body) body (f marks (For at v first test next body) itself).loop_at refl (λ o x st. f o x (in_for st)) h (free_for d before at v first test next body e))
 
-  while_zero : (at : Place) (n : ℕ) (test : Expr) (body : Statement) → HasTurns d (While at test body) n → (is_constant test ≡ true) × (holds d test ≡ false)
-  while_zero at n test body (of_while c h) = (c, h)
+  while_bound : (at : Place) (test : Expr) (body : Statement) → HasBound d (While at test body) → (is_constant test ≡ true) × (holds d test ≡ false)
+  while_bound at test body (bound_while c h) = (c, h)
 
   while_off : (marks : List ℕ) (at : Place) (test : Expr) (body : Statement) → Within marks (While at test body) → out Lone marks body Past ≡ true → (is_constant test ≡ true) × (holds d test ≡ false)
   while_off marks at test body f h = go (true_or_false (is_constant test)) (true_or_false (holds d test))
     where
-      free : ((n : ℕ) → HasTurns d (While at test body) n → ⊥) → ⊥
-      free g = never_free marks (While at test body) body (f marks (While at test body) itself).loop_at refl (λ o x st. f o x (in_while st)) h either_way
-        where
-          either_way : IsConstantLoop d (While at test body) → ⊥
-          either_way (inl t) = g t.0 t.1
-          either_way (inr t) = elim t [ ]
+      free : (HasBound d (While at test body) → ⊥) → ⊥
+      free g = never_free marks (While at test body) body (f marks (While at test body) itself).loop_at refl (λ o x st. f o x (in_while st)) h g
 
       go : (is_constant test ≡ true) ⊎ (is_constant test ≡ false) → (holds d test ≡ true) ⊎ (holds d test ≡ false) → (is_constant test ≡ true) × (holds d test ≡ false)
       go (inl c) (inr e) = (c, e)
-      go (inl c) (inl e) = absurd (free (λ n t. clash (holds d test) e (while_zero at n test body t).1))
-      go (inr c) e = absurd (free (λ n t. clash (is_constant test) (while_zero at n test body t).0 c))
+      go (inl c) (inl e) = absurd (free (λ b. clash (holds d test) e (while_bound at test body b).1))
+      go (inr c) e = absurd (free (λ b. clash (is_constant test) (while_bound at test body b).0 c))
 
   repeat_constant : (marks : List ℕ) (at : Place) (count : Expr) (body : Statement) → Within marks (Repeat at count body) → out Lone marks body Past ≡ true → is_constant count ≡ true
   repeat_constant marks at count body f h = go (true_or_false (is_constant count))
     where
       go : (is_constant count ≡ true) ⊎ (is_constant count ≡ false) → is_constant count ≡ true
       go (inl c) = c
-      go (inr c) = absurd (never_free marks (Repeat at count body) body (f marks (Repeat at count body) itself).loop_at refl (λ o x st. f o x (in_repeat st)) h either_way)
+      go (inr c) = absurd (never_free marks (Repeat at count body) body (f marks (Repeat at count body) itself).loop_at refl (λ o x st. f o x (in_repeat st)) h bound)
         where
-          either_way : IsConstantLoop d (Repeat at count body) → ⊥
-          either_way (inl t) = clash (is_constant count) (repeat_is d at t.0 count body t.1).0 c
-          either_way (inr t) = elim t [ ]
+          bound : HasBound d (Repeat at count body) → ⊥
+          bound (bound_repeat k) = clash (is_constant count) k c
 
   no_forever : (marks : List ℕ) (at : Place) (body : Statement) → Within marks (Forever at body) → out Lone marks body Past ≡ true → ⊥
-  no_forever marks at body f h = never_free marks (Forever at body) body (f marks (Forever at body) itself).loop_at refl (λ o x st. f o x (in_forever st)) h either_way
-    where
-      no_turns : (n : ℕ) → HasTurns d (Forever at body) n → ⊥
-      no_turns n t = elim t [ ]
-
-      either_way : IsConstantLoop d (Forever at body) → ⊥
-      either_way (inl t) = no_turns t.0 t.1
-      either_way (inr t) = elim t [ ]
+  no_forever marks at body f h = never_free marks (Forever at body) body (f marks (Forever at body) itself).loop_at refl (λ o x st. f o x (in_forever st)) h (λ b. elim b [ ])
 
   -- ---- such a statement may be walked through
 
@@ -334,7 +323,7 @@ module _ (d : Flat) (sound : IsSound d) (clean : IsClean d) where
 
   stands_still : (marks : List ℕ) (s : Statement) (v : ℕ) → IsFreeOf d v s → (st : Store) (l : List Word) → get_or st v [] ≡ l → get_or (body_store d (call_of d) s st) v [] ≡ l
   stands_still marks s v free st l h =
-      keeps d (λ u. u ≡ v → ⊥) (λ q. get_or q v [] ≡ l) (λ q ws k i. kept_all (λ u. u ≡ v → ⊥) q ws v k (λ n. n refl) ∙ i) marks s (λ o x k u c e. free marks o x k (subst (Contains (stored_by d x)) e c)) st h
+      keeps d (λ u. u ≡ v → ⊥) (λ q. get_or q v [] ≡ l) (λ q ws k i. kept_all (λ u. u ≡ v → ⊥) q ws v k (λ n. n refl) ∙ i) marks s (λ o x k u c e. free_met d v s free x k (subst (Contains (stored_by d x)) e c)) st h
 
   repeated : (body : Statement) (marks : List ℕ) → ((st : Store) → IsShaped d st → Ends d (call_of d) body false st) → (n : ℕ) (st : Store) → IsShaped d st →
       Turns n (Ends d (call_of d) body false) (body_store d (call_of d) body) st

@@ -9,17 +9,18 @@ use Rattle.el_design.specs.Assign.{has_label, arm_chosen}
 use Rattle.el_design.specs.Stack.{Work, Do, End, Return, Step, Turns}
 use Rattle.el_design.specs.InPlace.{Stands, itself, Meets}
 use Rattle.el_design.specs.InPlace as place
-use Rattle.el_design.specs.Turns.{fixed, goes_on, turned, IsCounted, HasTurns, IsEndlessFor, IsConstantLoop}
+use Rattle.el_design.specs.Turns.{fixed, goes_on, turned, IsCounted, HasTurns, IsEndlessFor}
 use Rattle.el_design.specs.Walk.{choices, is_constant_case, HasWalk}
 use Rattle.el_design.specs.Sizes.{size_of, exprs_size, expr_size, counting, task_size}
 use Rattle.el_design.specs.Rules.{max_turns, IsClean}
 use Rattle.el_design.specs.Sound.{IsSound, ChooseBy, IsPlainVariable}
 use Rattle.el_design.specs.Act.{copied_in, copied_out}
 use Rattle.el_design.specs.Alone.{Doing, Outcome, Falls, Stops, Jumps, Lost, seen, counted, writing, stepped, is_tested, and_then, closed, returned, loop, turns_of, enabling, go, enabled_at, setting}
+use Rattle.el_design.proofs.Texts.{free_met}
 use Rattle.el_design.proofs.OrderLists.{con_head, con_tail}
 use Rattle.el_design.proofs.OrderRule.{CountsEnough, label_way, split, stable, spins_not, no_end, tested_way, counted_turns, IsShaped, shaped_all, turn_first, turn_next, turn_test}
 use Rattle.el_design.proofs.OrderWrites.{left_in}
-use Rattle.el_design.proofs.OrderWalk.{Surely, sure, surely, either, Leaves, leaves_seq, leaves_first, leaves_block, leaves_named, leaves_ended, leaves_through, leaves_then, leaves_else, LeavesArms, leaves_case, leaves_enable, leaves_task, leaves_enabled, leaves_forever, leaves_while_turn, leaves_for, leaves_for_turn, leaves_repeat, leaves_repeat_turn}
+use Rattle.el_design.proofs.OrderWalk.{Surely, sure, surely, either, IsConstantLoop, Leaves, leaves_seq, leaves_first, leaves_block, leaves_named, leaves_ended, leaves_through, leaves_then, leaves_else, LeavesArms, leaves_case, leaves_enable, leaves_task, leaves_enabled, leaves_forever, leaves_while_turn, leaves_for, leaves_for_turn, leaves_repeat, leaves_repeat_turn}
 use Rattle.el_design.proofs.OrderOutcome.{FreeIn, Kept, kept_store, kept_then, Fine, Sane, sane_map, sane_then, sane_closed, sane_returned, InTurn, Paused, at_wait, in_first, in_rest, in_block, in_named, in_then, in_else, in_case, in_arm, in_others, in_for, in_while, in_repeat, in_forever, in_task, Rests, at_least, turns_fit}
 use Rattle.el_design.proofs.OrderSane.{Here, here_part, here_named, Stated, Armed, Claimed, fine_part, three_sizes, some_turns, for_turns, endless_turns, repeat_turns, repeat_ends, AtTest, ForSpent, ForLeft, for_sane, step_kept, RepeatSpent, RepeatLeft, repeat_sane, while_never, while_sane, has_walk, here_task, forever_ends}
 use Rattle.el_design.proofs.OrderDepth.{sizes_at, any, started, sound_tasks, tasks_stated, under_few}
@@ -482,7 +483,7 @@ module _ (d : Flat) (p : ℕ) (clean : IsClean d) (sound : IsSound d) (times : L
           shaped_next = shaped (FreeIn d marks (For at v first test next body)) y (stepped (setting d nets turns a) v next y) shaped_y kept_next
 
           at_next : AtTest d p clean times counts nets turns enough (enabled_at d nets turns a) marks below at v fits.0 first test next body (size b marks body) meets h.opens fits.1 (inner a l) (suc j) (stepped (setting d nets turns a) v next y)
-          at_next c = (turn_next (setting d nets turns a) y v fits.0 j first next shaped_y fits.1 c.step_is (fu.kept.words v (λ o x st k. c.free marks o x st k) ∙ (same c).0), λ i k. (same c).1 i (omega arith))
+          at_next c = (turn_next (setting d nets turns a) y v fits.0 j first next shaped_y fits.1 c.step_is (fu.kept.words v (λ o x st k. free_met d v body c.free x st k) ∙ (same c).0), λ i k. (same c).1 i (omega arith))
 
           limited : (Leaves d below body None → ⊥) → With 0 (size b marks body + 2 + x.events) (loop_at a (stepped (setting d nets turns a) v next y))
           limited never = for_once a l 0 (size b marks body + 2 + x.events) turns (stepped (setting d nets turns a) v next y) shaped_next (omega arith) never
@@ -561,7 +562,7 @@ module _ (d : Flat) (p : ℕ) (clean : IsClean d) (sound : IsSound d) (times : L
           (λ l y r g at q k i. in_for j (in_turn y g) (r at q k i)))
         where
           in_turn : (y : Doing) → Fine d marks body (size b marks body) x y → InTurn d y.store v first test next body j
-          in_turn y g c = (g.kept.words v (λ o x st k. c.free marks o x st k) ∙ (same c).0, (same c).1)
+          in_turn y g c = (g.kept.words v (λ o x st k. free_met d v body c.free x st k) ∙ (same c).0, (same c).1)
 
           falls : (y : Doing) → Beside false any b marks body (Step at v test next body ∷ below) x None y → Fine d marks body (size b marks body) x y →
               Sane (λ e u. Beside false any b marks (For at v first test next body) below x e u) (Fine d marks (For at v first test next body) (size b marks (For at v first test next body)) x) (Rests d marks (For at v first test next body) below) (loop_at a (stepped (setting d nets turns a) v next y))

@@ -1,12 +1,11 @@
 -- The states of an edge follow the events of processes alone, with nets as they stood when the edge began.
-use Rattle.std.proofs.Common.{◌≡◌, ◌⊎◌, inl, inr, ℕ, ◌<◌, Bool, true, false, not, ◌&&◌, if◌then◌else◌, List, [], length, get_or, set, slice_get, Contains, Option, Some, None, option_map, refl, sym, ◌∙◌, ap, ap₂, subst, arith, get_or-set_other, get_or-set_same, length-set}
+use Rattle.std.proofs.Common.{◌≡◌, ◌⊎◌, inl, inr, ℕ, ◌<◌, Bool, true, false, not, ◌&&◌, if◌then◌else◌, List, [], length, get_or, set, slice_get, Contains, Option, Some, None, option_map, refl, sym, ◌∙◌, ap, ap₂, subst, arith, get_or-set_other, get_or-set_same}
 use Rattle.std.specs.List.{list_any}
 use Rattle.std.proofs.lemmas.Bool.{cases_eq}
 use Rattle.std.proofs.lemmas.Option.{slice_get_within, get_or_from_slice_get}
-use Rattle.xt_bits.specs.Word.{Word, word}
+use Rattle.xt_bits.specs.Word.{Word}
 use Rattle.el_design.specs.Plain.{Expr, FlatNet, Flat}
 use Rattle.el_design.specs.Store.{Store}
-use Rattle.el_design.specs.Value.{Scene}
 use Rattle.el_design.specs.Names.{nets_in, variables_in}
 use Rattle.el_design.specs.Act.{Process}
 use Rattle.el_design.specs.Queue.{Config, scene, scene_of, net_aim, are_valued, is_stuck, can_run, is_quiet, Event, Run, Follow, Update, with_process, take_run, take_oldest, take_update, take}
@@ -14,13 +13,13 @@ use Rattle.el_design.specs.Run.{IsSettled}
 use Rattle.el_design.specs.Touches.{WritesBlocking, Reads, ReadsNet, Reaches, names_it, through, NetIs, DependsOn, depends, depends_through}
 use Rattle.el_design.specs.Rules.{IsClean, across, net_across}
 use Rattle.el_design.specs.Checked.{IsChecked}
-use Rattle.el_design.proofs.OrderPlaces.{got_one, any_set}
+use Rattle.el_design.proofs.OrderPlaces.{any_set}
 use Rattle.el_design.proofs.OrderFoot.{value_same, named_nodes}
 use Rattle.el_design.proofs.OrderWrites.{WritesIn}
 use Rattle.el_design.proofs.OrderSame.{Same}
 use Rattle.el_design.proofs.OrderSwap.{kept_in}
 use Rattle.el_design.proofs.OrderActs.{act_shared, act_same}
-use Rattle.el_design.proofs.OrderNets.{NetsSized, aim_alike, aim_wide}
+use Rattle.el_design.proofs.OrderNets.{NetsSized, moved_sized, aim_alike}
 use Rattle.el_design.proofs.OrderDigits.{digits, Followed, followed, digits_lower}
 use Rattle.el_design.proofs.OrderCommute.{if_some, step, Fine, Ran, ran_is, ran_can, Updated, updated_is, step_fine}
 
@@ -151,22 +150,6 @@ module _ (d : Flat) (order : List ℕ) (checked : IsChecked d order) (row : List
 
   -- ---- events of nets
 
-  moved_sized : (c : Config) (n : ℕ) (net : FlatNet) → NetsSized d c.row c.nets → slice_get d.nets n ≡ Some net → NetsSized d c.row (set c.nets n (net_aim d c.row (scene d c) n net))
-  moved_sized c n net z is = record { size = length-set c.nets n _ ∙ z.size; wide = wide }
-    where
-      wide : (m : ℕ) (x : FlatNet) (s : Scene) → slice_get d.nets m ≡ Some x → (get_or (set c.nets n (net_aim d c.row (scene d c) n net)) m (word x.width 0)).width ≡ (net_aim d c.row s m x).width
-      wide m x s at = go (cases_eq m n)
-        where
-          go : (m ≡ n) ⊎ (m ≡ n → ⊥) → (get_or (set c.nets n (net_aim d c.row (scene d c) n net)) m (word x.width 0)).width ≡ (net_aim d c.row s m x).width
-          go (inr other) = ap (λ w. w.width) (get_or-set_other c.nets n m (net_aim d c.row (scene d c) n net) (word x.width 0) other) ∙ z.wide m x s at
-          go (inl e) =
-              let l : n < length d.nets = slice_get_within d.nets n net is in
-              let k : length c.nets ≡ length d.nets = z.size in
-              let one : net ≡ x = got_one (slice_get d.nets m) net x (subst (λ j. slice_get d.nets j ≡ Some net) (sym e) is) at in
-              subst (λ j. (get_or (set c.nets n (net_aim d c.row (scene d c) n net)) j (word x.width 0)).width ≡ (net_aim d c.row s j x).width) (sym e)
-              (ap (λ w. w.width) (get_or-set_same c.nets n (net_aim d c.row (scene d c) n net) (word x.width 0) (omega arith))
-              ∙ aim_wide d c.row (scene d c) s n net ∙ ap (λ y. (net_aim d c.row s n y).width) one)
-
   moved_begun : (c : Config) (n : ℕ) (net : FlatNet) → c.row ≡ row → length c.nets ≡ length d.nets → slice_get d.nets n ≡ Some net → IsAsBegun d begin frozen c →
       IsAsBegun d begin frozen (record c { nets = set c.nets n (net_aim d c.row (scene d c) n net) })
   moved_begun c n net same size is held = record { words = held.words; nets = nets }
@@ -187,7 +170,7 @@ module _ (d : Flat) (order : List ℕ) (checked : IsChecked d order) (row : List
     record {
       fine = good.fine;
       row_is = good.row_is;
-      sized = moved_sized c n f.net good.sized f.is;
+      sized = moved_sized d c n f.net good.sized f.is;
       settles = go good.settles;
     },
   )

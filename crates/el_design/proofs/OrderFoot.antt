@@ -5,7 +5,7 @@ use Rattle.xt_bits.specs.Word.{Word, word, integer_of}
 use Rattle.xt_bits.specs.Operators.{select_of, extend_of}
 use Rattle.el_design.specs.Plain.{Expr, Number, NetValue, Variable, MemoryWord, Select, Unary, Binary, Choice, Concat, Copies, Sign, Resize, Call, Exprs, NoExpr, More, Range, Bit, Part, Up, Down, Flat}
 use Rattle.el_design.specs.Store.{place_of, stored}
-use Rattle.el_design.specs.Value.{Scene, value, values, lowest, lsb_of, is_signed, is_up, unary_value, binary_value, joined, copies}
+use Rattle.el_design.specs.Value.{Scene, value, values, lowest, is_signed, is_up, unary_value, binary_value, joined, copies}
 use Rattle.el_design.specs.Names.{nodes_of, nodes_of_all, range_nodes, variable_named, variables_in, net_named, nets_in, is_fixed, is_constant}
 use Rattle.el_design.proofs.OrderLists.{con_head, con_tail, con_all, con_mapped}
 
@@ -45,8 +45,8 @@ module _ (A N : ℕ → Type 0) (d : Flat) (s t : Scene) (g : Agree A N s t) whe
     value_same (Variable x v) h = word_same v 0 x.width (h (Variable x v) (con_head (Variable x v) []))
     value_same (MemoryWord x v i) h =
         ap (λ w. stored s.store v (place_of d v (integer_of w (is_signed i))) x.width) (value_same i (under _ _ h)) ∙ word_same v _ x.width (h (MemoryWord x v i) (con_head _ _))
-    value_same (Select x e r) h =
-        ap₂ (λ w l. select_of w (l -ℤ pos (lsb_of d e)) x.width) (value_same e (left_of _ (range_nodes r) (under _ _ h))) (lowest_same r (right_of (nodes_of e) _ (under _ _ h)))
+    value_same (Select x e r lsb) h =
+        ap₂ (λ w l. select_of w (l -ℤ pos lsb) x.width) (value_same e (left_of _ (range_nodes r) (under _ _ h))) (lowest_same r (right_of (nodes_of e) _ (under _ _ h)))
     value_same (Unary x op e) h = ap (unary_value op) (value_same e (under _ _ h))
     value_same (Binary x op a b) h =
         ap₂ (binary_value op (is_signed a && is_signed b) x.signed) (value_same a (left_of _ (nodes_of b) (under _ _ h))) (value_same b (right_of (nodes_of a) _ (under _ _ h)))
@@ -76,7 +76,7 @@ named_nodes A N e h k (NetValue s n) c = k n (con_mapped net_named (nodes_of e) 
 named_nodes A N e h k (Variable s v) c = h v (con_mapped variable_named (nodes_of e) (Variable s v) v c refl)
 named_nodes A N e h k (MemoryWord s v i) c = h v (con_mapped variable_named (nodes_of e) (MemoryWord s v i) v c refl)
 named_nodes A N e h k (Number s b) c = tt
-named_nodes A N e h k (Select s x r) c = tt
+named_nodes A N e h k (Select s x r lsb) c = tt
 named_nodes A N e h k (Unary s op x) c = tt
 named_nodes A N e h k (Binary s op a b) c = tt
 named_nodes A N e h k (Choice s x a b) c = tt
@@ -94,7 +94,7 @@ fixed_names (NetValue s n) h = cc
 fixed_names (Variable s v) h = cc
 fixed_names (MemoryWord s v i) h = cc
 fixed_names (Number s b) h = tt
-fixed_names (Select s x r) h = tt
+fixed_names (Select s x r lsb) h = tt
 fixed_names (Unary s op x) h = tt
 fixed_names (Binary s op a b) h = tt
 fixed_names (Choice s x a b) h = tt

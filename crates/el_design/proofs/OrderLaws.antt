@@ -33,7 +33,7 @@ over d c h = go (list_any is_stuck c.procs) refl
     go true e = inr (h, e)
     go false e = inl (h, e)
 
-begins : (d : Flat) (order : List ℕ) → IsChecked d order → (x : Stimulus) (rows : List (List Word)) (c : Config) → EdgeBegins d x rows c → Begins d c
+pub begins : (d : Flat) (order : List ℕ) → IsChecked d order → (x : Stimulus) (rows : List (List Word)) (c : Config) → EdgeBegins d x rows c → Begins d c
 begins d order checked x rows c (first_edge {row = row} e s) = starts_begins d order checked x row c s
 begins d order checked x rows c (next_edge {row = row} {more = more} {begin = begin} {end = end} es b t r n) =
     let r2 : Rested d end = (edge_rest d order checked begin (begins d order checked x (row ∷ more) begin b) es end (takes_path d Any 0 begin end es t) (ready_ended d end r.0)).1 in

@@ -32,7 +32,7 @@ con_cases y x xs c = go (Contains-append_cases (y ∷ []) xs x c)
 pub con_all : {X : Type 0} (p : X → Bool) (xs : List X) (x : X) → list_all p xs ≡ true → Contains xs x → p x ≡ true
 con_all p xs x h c = All-contains (λ y. p y ≡ true) xs x (AllPass-from_list_all p xs h) c
 
-some_is : {X : Type 0} (a b : X) → Some a ≡ Some b → a ≡ b
+pub some_is : {X : Type 0} (a b : X) → Some a ≡ Some b → a ≡ b
 some_is a b e = cc
 
 pub con_mapped : {X Y : Type 0} (h : X → Option Y) (xs : List X) (x : X) (y : Y) → Contains xs x → h x ≡ Some y → Contains (filter_map h xs) y

@@ -1,5 +1,6 @@
 -- Nets: the values of settled ones are unique, and each event of a net lowers a number.
-use Rattle.std.proofs.Common.{◌≡◌, ℕ, zero, suc, ◌+◌, ◌<◌, ◌≤◌, Bool, true, false, ◌&&◌, List, [], ◌∷◌, length, get_or, slice_get, Contains, Option, Some, None, refl, sym, ◌∙◌, ap, ap₂, subst, arith, eqb-true, ext_get_or}
+use Rattle.std.proofs.Common.{◌≡◌, ◌⊎◌, inl, inr, ℕ, zero, suc, ◌+◌, ◌<◌, ◌≤◌, Bool, true, false, ◌&&◌, List, [], ◌∷◌, length, get_or, set, slice_get, Contains, Option, Some, None, refl, sym, ◌∙◌, ap, ap₂, subst, arith, eqb-true, ext_get_or, get_or-set_other, get_or-set_same, length-set}
+use Rattle.std.proofs.lemmas.Bool.{cases_eq}
 use Rattle.std.proofs.lemmas.List.{get_or_past, get_or_default}
 use Rattle.std.proofs.lemmas.Option.{slice_get_within, get_or_from_slice_get}
 use Rattle.xt_bits.specs.Word.{Word, word}
@@ -86,6 +87,23 @@ word_is a b h k = ap₂ (λ w v. record { width = w; value = v }) h k
 -- a net that has its value has it
 pub is_aim : (d : Flat) (c : Config) (n : ℕ) (net : FlatNet) → NetsSized d c.row c.nets → slice_get d.nets n ≡ Some net → has_value d c n net ≡ true → get_or c.nets n (word net.width 0) ≡ net_aim d c.row (scene d c) n net
 is_aim d c n net z is h = word_is (get_or c.nets n (word net.width 0)) (net_aim d c.row (scene d c) n net) (z.wide n net (scene d c) is) (eqb-true _ _ h)
+
+-- a net that takes its value leaves the others, and is as wide as before
+pub moved_sized : (d : Flat) (c : Config) (n : ℕ) (net : FlatNet) → NetsSized d c.row c.nets → slice_get d.nets n ≡ Some net → NetsSized d c.row (set c.nets n (net_aim d c.row (scene d c) n net))
+moved_sized d c n net z is = record { size = length-set c.nets n _ ∙ z.size; wide = wide }
+  where
+    wide : (m : ℕ) (x : FlatNet) (s : Scene) → slice_get d.nets m ≡ Some x → (get_or (set c.nets n (net_aim d c.row (scene d c) n net)) m (word x.width 0)).width ≡ (net_aim d c.row s m x).width
+    wide m x s at = go (cases_eq m n)
+      where
+        go : (m ≡ n) ⊎ (m ≡ n → ⊥) → (get_or (set c.nets n (net_aim d c.row (scene d c) n net)) m (word x.width 0)).width ≡ (net_aim d c.row s m x).width
+        go (inr other) = ap (λ w. w.width) (get_or-set_other c.nets n m (net_aim d c.row (scene d c) n net) (word x.width 0) other) ∙ z.wide m x s at
+        go (inl e) =
+            let l : n < length d.nets = slice_get_within d.nets n net is in
+            let k : length c.nets ≡ length d.nets = z.size in
+            let one : net ≡ x = got_one (slice_get d.nets m) net x (subst (λ j. slice_get d.nets j ≡ Some net) (sym e) is) at in
+            subst (λ j. (get_or (set c.nets n (net_aim d c.row (scene d c) n net)) j (word x.width 0)).width ≡ (net_aim d c.row s j x).width) (sym e)
+            (ap (λ w. w.width) (get_or-set_same c.nets n (net_aim d c.row (scene d c) n net) (word x.width 0) (omega arith))
+            ∙ aim_wide d c.row (scene d c) s n net ∙ ap (λ y. (net_aim d c.row s n y).width) one)
 
 module _ (d : Flat) (order : List ℕ) (ordered : IsOrder d order) where
   -- ---- settled nets are unique

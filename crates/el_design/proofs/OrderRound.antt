@@ -9,7 +9,7 @@ use Rattle.el_design.specs.Names.{target_variables}
 use Rattle.el_design.specs.Stack.{Work, Do, End, Return, Test, Step, Turns, Await, settle, is_waiting}
 use Rattle.el_design.specs.Act.{Process}
 use Rattle.el_design.specs.Queue.{Config, is_stuck_at, Event}
-use Rattle.el_design.specs.InPlace.{Stands, itself, Meets}
+use Rattle.el_design.specs.InPlace.{Stands, itself, HasInPlace, Meets}
 use Rattle.el_design.specs.InPlace as place
 use Rattle.el_design.specs.Turns.{stored_by}
 use Rattle.el_design.specs.Touches.{WritesBlocking, writes_blocking, writes_nonblocking, Writes, by_blocking, by_nonblocking}
@@ -18,6 +18,7 @@ use Rattle.el_design.specs.Rules.{max_turns, IsClean, two_write, two_writers}
 use Rattle.el_design.specs.Sound.{IsSound}
 use Rattle.el_design.specs.Alone.{Doing, Falls, Stops, Jumps, Lost, Setting, go_stack, setting, is_stop, process_of, Goes, stays, doing, alone_end, round}
 use Rattle.el_design.proofs.OrderLists.{con_nil, con_head}
+use Rattle.el_design.proofs.Texts.{met_in_place}
 use Rattle.el_design.proofs.OrderRule.{CountsEnough, split, IsShaped}
 use Rattle.el_design.proofs.OrderOutcome.{FreeIn, Kept, kept_store, Paused, at_wait, in_first, in_rest, in_block, in_named, in_then, in_else, in_case, in_arm, in_others, in_for, in_while, in_repeat, in_forever, in_task}
 use Rattle.el_design.proofs.OrderStop.{root, deep, Stopped, starts, goes_from}
@@ -28,24 +29,24 @@ use Rattle.el_design.proofs.OrderPath.{path_on, count_both, is_run, further, Way
 
 -- ---- what a process stores to, it writes
 
-nonblocking_only : (d : Flat) (p : ℕ) (o : List ℕ) (x : Statement) (v : ℕ) → Meets d p o x → Contains (stored_by d x) v → Writes d p v
-nonblocking_only d p o (Assign at to e true) v m c = by_nonblocking (writes_nonblocking m (subst (λ l. Contains l v) (append-nil (target_variables to)) c))
-nonblocking_only d p o (Assign at to e false) v m c = by_blocking (writes_blocking m c)
-nonblocking_only d p o Null v m c = by_blocking (writes_blocking m c)
-nonblocking_only d p o Skip v m c = by_blocking (writes_blocking m c)
-nonblocking_only d p o (Seq a b) v m c = by_blocking (writes_blocking m c)
-nonblocking_only d p o (Block at mark body) v m c = by_blocking (writes_blocking m c)
-nonblocking_only d p o (If at test a b) v m c = by_blocking (writes_blocking m c)
-nonblocking_only d p o (Case at on arms) v m c = by_blocking (writes_blocking m c)
-nonblocking_only d p o (Arm on labels body others) v m c = by_blocking (writes_blocking m c)
-nonblocking_only d p o (For at w first test next body) v m c = by_blocking (writes_blocking m c)
-nonblocking_only d p o (While at test body) v m c = by_blocking (writes_blocking m c)
-nonblocking_only d p o (Repeat at n body) v m c = by_blocking (writes_blocking m c)
-nonblocking_only d p o (Forever at body) v m c = by_blocking (writes_blocking m c)
-nonblocking_only d p o (Wait at falling) v m c = by_blocking (writes_blocking m c)
-nonblocking_only d p o (Enable at t ins outs) v m c = by_blocking (writes_blocking m c)
-nonblocking_only d p o (Disable at n) v m c = by_blocking (writes_blocking m c)
-nonblocking_only d p o (Host at f ins result outs) v m c = by_blocking (writes_blocking m c)
+nonblocking_only : (d : Flat) (p : ℕ) (x : Statement) (v : ℕ) → HasInPlace d p x → Contains (stored_by d x) v → Writes d p v
+nonblocking_only d p (Assign at to e true) v m c = by_nonblocking (writes_nonblocking m (subst (λ l. Contains l v) (append-nil (target_variables to)) c))
+nonblocking_only d p (Assign at to e false) v m c = by_blocking (writes_blocking m c)
+nonblocking_only d p Null v m c = by_blocking (writes_blocking m c)
+nonblocking_only d p Skip v m c = by_blocking (writes_blocking m c)
+nonblocking_only d p (Seq a b) v m c = by_blocking (writes_blocking m c)
+nonblocking_only d p (Block at mark body) v m c = by_blocking (writes_blocking m c)
+nonblocking_only d p (If at test a b) v m c = by_blocking (writes_blocking m c)
+nonblocking_only d p (Case at on arms) v m c = by_blocking (writes_blocking m c)
+nonblocking_only d p (Arm on labels body others) v m c = by_blocking (writes_blocking m c)
+nonblocking_only d p (For at w first test next body) v m c = by_blocking (writes_blocking m c)
+nonblocking_only d p (While at test body) v m c = by_blocking (writes_blocking m c)
+nonblocking_only d p (Repeat at n body) v m c = by_blocking (writes_blocking m c)
+nonblocking_only d p (Forever at body) v m c = by_blocking (writes_blocking m c)
+nonblocking_only d p (Wait at falling) v m c = by_blocking (writes_blocking m c)
+nonblocking_only d p (Enable at t ins outs) v m c = by_blocking (writes_blocking m c)
+nonblocking_only d p (Disable at n) v m c = by_blocking (writes_blocking m c)
+nonblocking_only d p (Host at f ins result outs) v m c = by_blocking (writes_blocking m c)
 
 module _ (d : Flat) (p : ℕ) (process : FlatProc) (here : slice_get d.procs p ≡ Some process) where
   meets : (o : List ℕ) (x : Statement) → Stands d.tasks [] process.body o x → Meets d p o x
@@ -59,11 +60,11 @@ module _ (d : Flat) (p : ℕ) (process : FlatProc) (here : slice_get d.procs p �
         where
           pick : {q : List ℕ} {y : Statement} → Stands d.tasks [] (Forever process.place process.body) q y → Contains (stored_by d y) v → Writes d p v
           pick itself c = absurd (con_nil v c)
-          pick {q} {y} (place.in_forever st) c = nonblocking_only d p q y v (meets q y st) c
+          pick {q} {y} (place.in_forever st) c = nonblocking_only d p y v (met_in_place (meets q y st)) c
 
       go : (b : Bool) → Stands d.tasks [] (if b then Forever process.place process.body else process.body) o x → Writes d p v
       go true st = always st
-      go false st = nonblocking_only d p o x v (meets o x st) c
+      go false st = nonblocking_only d p x v (met_in_place (meets o x st)) c
 
   -- the variables of the `for` loops in a statement
   abbrev Loops : List ℕ → Statement → Type 0
@@ -92,11 +93,11 @@ module _ (d : Flat) (p : ℕ) (process : FlatProc) (here : slice_get d.procs p �
   root_loops o at v a b c body st = go process.always st
     where
       met : Stands d.tasks [] process.body o (For at v a b c body) → WritesBlocking d p v
-      met st = writes_blocking (meets o (For at v a b c body) st) (con_head v [])
+      met st = writes_blocking (met_in_place (meets o (For at v a b c body) st)) (con_head v [])
 
       inside : {q : List ℕ} {y : Statement} → Stands d.tasks [] (Forever process.place process.body) q y → y ≡ For at v a b c body → WritesBlocking d p v
       inside itself e = cc
-      inside {q} {y} (place.in_forever st) e = writes_blocking (meets q (For at v a b c body) (subst (λ y. Stands d.tasks [] process.body q y) e st)) (con_head v [])
+      inside {q} {y} (place.in_forever st) e = writes_blocking (met_in_place (meets q (For at v a b c body) (subst (λ y. Stands d.tasks [] process.body q y) e st))) (con_head v [])
 
       go : (t : Bool) → Stands d.tasks [] (if t then Forever process.place process.body else process.body) o (For at v a b c body) → WritesBlocking d p v
       go true st = inside st refl

@@ -16,7 +16,7 @@ use Rattle.el_design.specs.Assign.{writes_of, has_label, count_of}
 use Rattle.el_design.specs.Names.{nodes_of, is_constant, is_fixed, labels_in}
 use Rattle.el_design.specs.Stack.{Work, below_mark}
 use Rattle.el_design.specs.InPlace.{Meets, LoopAt, loop_of_process}
-use Rattle.el_design.specs.Turns.{fixed, is_variable, is_relation, is_advance, is_test_of, is_step_of, turned, goes_on, HasTurns, IsEndlessFor, IsConstantLoop, body_of}
+use Rattle.el_design.specs.Turns.{fixed, is_kept, is_variable, is_relation, is_advance, is_test_of, is_step_of, turned, goes_on, HasTurns, IsEndlessFor, body_of}
 use Rattle.el_design.specs.Walk.{MayGo, HasWalk, IsUnrolled, is_constant_case}
 use Rattle.el_design.specs.Sizes.{CountsTurns}
 use Rattle.el_design.specs.Rules.{max_turns, most_turns, loop_spins, always_spins, too_many, without_end, spins, turns, IsClean}
@@ -24,18 +24,11 @@ use Rattle.el_design.specs.Sound.{IsPlainVariable}
 use Rattle.el_design.specs.Alone.{Doing, Setting, seen, stepped, is_tested}
 use Rattle.el_design.proofs.OrderLists.{con_nil, con_all, con_cases}
 use Rattle.el_design.proofs.OrderFoot.{Names, NamesAll, Agree, value_same, constant_same}
-use Rattle.el_design.proofs.OrderWalk.{Surely, Leaves}
+use Rattle.el_design.proofs.OrderWalk.{Surely, IsConstantLoop, Leaves}
+pub use Rattle.el_design.proofs.Bounds.{split}
+use Rattle.el_design.proofs.Bounds.{no_bound_of}
 
 -- ---- numbers
-
-pub split : (a b : ℕ) → (a ≤ b) ⊎ (b < a)
-split zero b = inl (omega arith)
-split (suc a) zero = inr (omega arith)
-split (suc a) (suc b) = go (split a b)
-  where
-    go : (a ≤ b) ⊎ (b < a) → (suc a ≤ suc b) ⊎ (suc b < suc a)
-    go (inl h) = inl (omega arith)
-    go (inr h) = inr (omega arith)
 
 -- an order of numbers that can't but hold, holds
 pub stable : (a b : ℕ) → Surely (a ≤ b) → a ≤ b
@@ -57,7 +50,7 @@ walked d marks below body o v = v marks [] [] (λ m e. (refl, λ c. o m c e)) re
 module _ (d : Flat) (clean : IsClean d) where
   -- a loop of which the body may be walked through is constant
   pub spins_not : {p : ℕ} {marks : List ℕ} {x body : Statement} → Meets d p marks x → body_of x ≡ Some body → HasWalk d marks body → Surely (IsConstantLoop d x)
-  spins_not m b w n = clean 12 61 _ (spins (loop_spins (loop_of_process m) b n w))
+  spins_not m b w n = clean 12 61 _ (spins (loop_spins (loop_of_process m) b (no_bound_of d n) w))
 
   pub few_turns : {p n : ℕ} {marks : List ℕ} {x body : Statement} → Meets d p marks x → body_of x ≡ Some body → HasTurns d x n → HasWalk d marks body → n ≤ max_turns
   few_turns {n = n} m b t w = go (split n max_turns)
@@ -107,7 +100,7 @@ fixed_only v e k x c = go x (con_all is_fixed (nodes_of e) x k c)
     go (Variable s n) h = cc
     go (MemoryWord s n i) h = cc
     go (Number s b) h = tt
-    go (Select s y r) h = tt
+    go (Select s y r lsb) h = tt
     go (Unary s op y) h = tt
     go (Binary s op a b) h = tt
     go (Choice s y a b) h = tt
@@ -136,11 +129,11 @@ no_names v x c = absurd (con_nil x c)
 
 variable_names : (v : ℕ) (e : Expr) → is_variable v e ≡ true → NamesAll (Only v) NoNet (nodes_of e)
 variable_names v (Variable s w) h = under v (Variable s w) [] (sym (eqb→eq w v (subst T (sym h) tt))) (no_names v)
-variable_names v (Resize s e) h = under v (Resize s e) (nodes_of e) tt (variable_names v e h)
+variable_names v (Resize s e) h = under v (Resize s e) (nodes_of e) tt (variable_names v e (and_right (is_kept s e) (is_variable v e) h))
 variable_names v (Number s b) h = cc
 variable_names v (NetValue s n) h = cc
 variable_names v (MemoryWord s n i) h = cc
-variable_names v (Select s y r) h = cc
+variable_names v (Select s y r lsb) h = cc
 variable_names v (Unary s op y) h = cc
 variable_names v (Binary s op a b) h = cc
 variable_names v (Choice s y a b) h = cc
@@ -161,7 +154,7 @@ test_names v (Variable s w) h = cc
 test_names v (Number s b) h = cc
 test_names v (NetValue s n) h = cc
 test_names v (MemoryWord s n i) h = cc
-test_names v (Select s y r) h = cc
+test_names v (Select s y r lsb) h = cc
 test_names v (Unary s op y) h = cc
 test_names v (Choice s y a b) h = cc
 test_names v (Concat s es) h = cc
@@ -171,12 +164,12 @@ test_names v (Call s f es) h = cc
 
 pub step_names : (v : ℕ) (e : Expr) → is_step_of v e ≡ true → NamesAll (Only v) NoNet (nodes_of e)
 step_names v (Binary s op a b) h = binary_names v s op a b (is_advance op) h
-step_names v (Resize s e) h = under v (Resize s e) (nodes_of e) tt (step_names v e h)
+step_names v (Resize s e) h = under v (Resize s e) (nodes_of e) tt (step_names v e (and_right (is_kept s e) (is_step_of v e) h))
 step_names v (Variable s w) h = cc
 step_names v (Number s b) h = cc
 step_names v (NetValue s n) h = cc
 step_names v (MemoryWord s n i) h = cc
-step_names v (Select s y r) h = cc
+step_names v (Select s y r lsb) h = cc
 step_names v (Unary s op y) h = cc
 step_names v (Choice s y a b) h = cc
 step_names v (Concat s es) h = cc

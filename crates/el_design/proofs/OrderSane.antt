@@ -14,7 +14,7 @@ use Rattle.el_design.specs.InPlace.{Stands, itself, Meets}
 use Rattle.el_design.specs.InPlace as place
 use Rattle.el_design.specs.Calls.{Routine, TaskOf, Uses, Leads, leads, LeadsTo, there, onward, task_body}
 use Rattle.el_design.specs.Calls as call
-use Rattle.el_design.specs.Turns.{fixed, holds, stored_by, formals_in, turned, goes_on, IsCounted, HasTurns, of_repeat, of_while, of_for, IsEndlessFor, endless_for, IsConstantLoop}
+use Rattle.el_design.specs.Turns.{fixed, holds, stored_by, formals_in, turned, goes_on, IsCounted, HasTurns, of_repeat, of_while, of_for, IsEndlessFor, endless_for}
 use Rattle.el_design.specs.Walk.{choices, is_constant_case, MayGo, HasWalk}
 use Rattle.std.specs.List.{sum_by}
 use Rattle.std.proofs.lemmas.List.Sums.{sum_by-cons}
@@ -23,10 +23,11 @@ use Rattle.el_design.specs.Rules.{max_turns, IsClean}
 use Rattle.el_design.specs.Sound.{IsPlainVariable, IsStatement, ChooseBy}
 use Rattle.el_design.specs.Act.{copied_in, copied_out, reply_written}
 use Rattle.el_design.specs.Alone.{Doing, Outcome, Falls, Stops, Lost, Setting, seen, counted, writing, assigning, stepped, asking, is_tested, and_then, loop, turns_of, enabling, disabling, awaiting, go}
+use Rattle.el_design.proofs.Texts.{free_met}
 use Rattle.el_design.proofs.OrderLists.{con_head, con_tail, con_nil, con_cases}
 use Rattle.el_design.proofs.OrderWrites.{WritesIn, writes_in, entered_in, left_in, replied_in}
 use Rattle.el_design.proofs.OrderRule.{CountsEnough, label_way, split, stable, Opens, walked, spins_not, few_turns, no_end, tested_way, counted_turns, IsShaped, shaped_all, turn_first, turn_next, turn_test}
-use Rattle.el_design.proofs.OrderWalk.{Surely, sure, surely, Leaves, leaves_null, leaves_skip, leaves_seq, leaves_first, leaves_block, leaves_named, leaves_ended, leaves_through, leaves_assign, leaves_then, leaves_else, LeavesArms, leaves_case, leaves_host, leaves_passed, leaves_disabled, leaves_enable, leaves_task, leaves_enabled, leaves_forever, leaves_while, leaves_while_turn, leaves_for, leaves_for_turn, leaves_repeat, leaves_repeat_turn}
+use Rattle.el_design.proofs.OrderWalk.{Surely, sure, surely, IsConstantLoop, Leaves, leaves_null, leaves_skip, leaves_seq, leaves_first, leaves_block, leaves_named, leaves_ended, leaves_through, leaves_assign, leaves_then, leaves_else, LeavesArms, leaves_case, leaves_host, leaves_passed, leaves_disabled, leaves_enable, leaves_task, leaves_enabled, leaves_forever, leaves_while, leaves_while_turn, leaves_for, leaves_for_turn, leaves_repeat, leaves_repeat_turn}
 use Rattle.el_design.proofs.OrderOutcome.{FreeIn, Kept, kept_store, kept_then, kept_writes, Fine, Sane, sane_map, sane_then, sane_closed, sane_returned, InTurn, Paused, at_wait, in_first, in_rest, in_block, in_named, in_then, in_else, in_case, in_arm, in_others, in_for, in_while, in_repeat, in_forever, in_task, Rests, at_least, turns_fit}
 
 -- ---- sizes
@@ -39,7 +40,7 @@ some_size calls (Number s b) = omega arith
 some_size calls (NetValue s n) = omega arith
 some_size calls (Variable s v) = omega arith
 some_size calls (MemoryWord s v i) = head_size calls (MemoryWord s v i) (nodes_of i) (omega arith)
-some_size calls (Select s x r) = head_size calls (Select s x r) (nodes_of x ++ range_nodes r) (omega arith)
+some_size calls (Select s x r lsb) = head_size calls (Select s x r lsb) (nodes_of x ++ range_nodes r) (omega arith)
 some_size calls (Unary s op x) = head_size calls (Unary s op x) (nodes_of x) (omega arith)
 some_size calls (Binary s op a b) = head_size calls (Binary s op a b) (nodes_of a ++ nodes_of b) (omega arith)
 some_size calls (Choice s c a b) = head_size calls (Choice s c a b) (nodes_of c ++ nodes_of a ++ nodes_of b) (omega arith)
@@ -273,7 +274,7 @@ module _ (d : Flat) (p : ℕ) (clean : IsClean d) (times : List ℕ → Statemen
         body_kept z g = kept_then FreeHere FreeHere (FreeIn d marks body) y (counted y) z (λ u a. a) free_body (kept_store FreeHere y (counted y) refl) g.kept
 
         same_value : (z : Doing) → Fine d marks body size (counted y) z → IsCounted d v first test next body → get_or z.store v [] ≡ get_or (turned d v first next j) v []
-        same_value z g c = g.kept.words v (λ o x st k. c.free marks o x st k) ∙ (f c).0
+        same_value z g c = g.kept.words v (λ o x st k. free_met d v body c.free x st k) ∙ (f c).0
 
         next_turn : (z : Doing) → Fine d marks body size (counted y) z → AtTest (suc j) (stepped setting_of v next z)
         next_turn z g c = (turn_next setting_of z v w j first next (shaped_on _ (counted y) z s g.kept) plain c.step_is (same_value z g c), λ i h. up_to j y f e c i (omega arith))

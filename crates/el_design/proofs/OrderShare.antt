@@ -6,7 +6,7 @@ use Rattle.el_design.specs.Plain.{Expr, Lvalue, Statement, Null, Skip, Seq, Bloc
 use Rattle.el_design.specs.Value.{Scene}
 use Rattle.el_design.specs.Assign.{has_label, arm_chosen}
 use Rattle.el_design.specs.Names.{nets_in, own_expressions}
-use Rattle.el_design.specs.InPlace.{Stands, itself, Meets, Holds}
+use Rattle.el_design.specs.InPlace.{Stands, itself, HasInPlace, Meets, Holds}
 use Rattle.el_design.specs.InPlace as place
 use Rattle.el_design.specs.Touches.{blocking_writes, nonblocking_writes, read_by, WritesBlocking, writes_blocking, WritesNonblocking, writes_nonblocking, Reads, ReadsNet}
 use Rattle.el_design.specs.Touches as touch
@@ -14,6 +14,7 @@ use Rattle.el_design.specs.Sound.{IsExpr, IsOutput, IsStatement, IsSound}
 use Rattle.el_design.specs.Stack.{Work, Do, End, Return, Test, Step, Turns, Await, enter, settle, start_stack, wake, below_mark}
 use Rattle.el_design.specs.Act.{turn}
 use Rattle.el_design.proofs.OrderLists.{con_nil}
+use Rattle.el_design.proofs.Texts.{met_in_place}
 use Rattle.el_design.proofs.OrderPlaces.{con_got, con_map}
 
 -- what a statement itself touches, the process touches in place
@@ -24,7 +25,8 @@ pub record Share (d : Flat) (i : ℕ) (x : Statement) : Type 0 where
   pub nets : (n : ℕ) → Contains (flat_map nets_in (own_expressions x)) n → ReadsNet d i n
 
 pub share_met : (d : Flat) (i : ℕ) (o : List ℕ) (x : Statement) → Meets d i o x → Share d i x
-share_met d i o x m = record { blocking = λ v c. writes_blocking m c; nonblocking = λ v c. writes_nonblocking m c; reads = λ v c. touch.reads m c; nets = λ n c. touch.reads_net m c }
+share_met d i o x m = let h : HasInPlace d i x = met_in_place m in
+    record { blocking = λ v c. writes_blocking h c; nonblocking = λ v c. writes_nonblocking h c; reads = λ v c. touch.reads h c; nets = λ n c. touch.reads_net h c }
 
 -- of all that stands in a statement of a text
 pub record SharesAll (d : Flat) (i : ℕ) (s : Statement) : Type 0 where

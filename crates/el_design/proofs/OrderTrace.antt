@@ -28,10 +28,10 @@ pub takes_path : (d : Flat) (C : ℕ → List Event → Event → Type 0) (k : �
 takes_path d C k c end [] h = h
 takes_path d C k c end (e ∷ es) h = (h.1.0, h.1.1, takes_path d C (suc k) h.1.0 end es h.1.2)
 
-heads : {X : Type 0} (x y : X) (xs ys : List X) → (x ∷ xs) ≡ (y ∷ ys) → x ≡ y
+pub heads : {X : Type 0} (x y : X) (xs ys : List X) → (x ∷ xs) ≡ (y ∷ ys) → x ≡ y
 heads x y xs ys h = cc
 
-tails : {X : Type 0} (x y : X) (xs ys : List X) → (x ∷ xs) ≡ (y ∷ ys) → xs ≡ ys
+pub tails : {X : Type 0} (x y : X) (xs ys : List X) → (x ∷ xs) ≡ (y ∷ ys) → xs ≡ ys
 tails x y xs ys h = cc
 
 -- where rows end or a process waits for a reply, no event may be taken
@@ -40,10 +40,10 @@ goes_ready d C k last rows [] trace (inl h) = h.0.0
 goes_ready d C k last rows [] trace (inr h) = h.0.0
 goes_ready d C k last rows (es ∷ plays) trace h = h.0.0
 
-not_both : {X : Type 0} (b : Bool) → b ≡ true → b ≡ false → X
+pub not_both : {X : Type 0} (b : Bool) → b ≡ true → b ≡ false → X
 not_both b h k = absurd (let e : true ≡ false = sym h ∙ k in cc)
 
-not_empty : {X Y : Type 0} (xs ys : List X) (x : X) → xs ≡ [] → xs ≡ x ∷ ys → Y
+pub not_empty : {X Y : Type 0} (xs ys : List X) (x : X) → xs ≡ [] → xs ≡ x ∷ ys → Y
 not_empty {X} xs ys x h k = absurd (let e : [] ≡ x ∷ ys = sym h ∙ k in cc)
 
 module _ (d : Flat) (order : List ℕ) (checked : IsChecked d order) where

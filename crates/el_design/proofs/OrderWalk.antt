@@ -4,24 +4,12 @@ use Rattle.xt_base.specs.declared.refusals.Place.{Place}
 use Rattle.el_design.specs.Plain.{Expr, Lvalue, Statement, Null, Skip, Seq, Block, Assign, If, Case, For, While, Repeat, Forever, Enable, Disable, Host, FlatTask, Flat}
 use Rattle.el_design.specs.Stack.{Work, Do, End, Return, Turns, quiet_step, below_mark}
 use Rattle.el_design.specs.Act.{turn}
-use Rattle.el_design.specs.Turns.{fixed, holds, HasTurns, of_while, IsEndlessFor, IsEndlessWhile, endless_while, IsConstantLoop, body_of}
+use Rattle.el_design.specs.Turns.{fixed, holds, HasTurns, of_while, IsEndlessFor, IsEndlessWhile, endless_while, body_of}
 use Rattle.el_design.specs.Assign.{arm_chosen}
 use Rattle.el_design.specs.Walk.{choices, is_constant_case, MayGo, MayTurn, IsFreeLoop, Steps, quietly, assigns, goes_yes, goes_no, chooses, begins_turns, takes_turn, goes_on_for, goes_on_while, takes_none, takes_one, enables, returns, passes, calls, Walks, stays, HasWalk}
 use Rattle.el_design.specs.Walk as walk
-
--- what can't but hold
-abbrev pub Surely : Type 0 → Type 0
-Surely P = (P → ⊥) → ⊥
-
-pub sure : {P : Type 0} → P → Surely P
-sure p n = n p
-
-pub surely : {P Q : Type 0} → Surely P → (P → Surely Q) → Surely Q
-surely s f n = s (λ p. f p n)
-
--- a thing holds or doesn't
-pub either : {P Q : Type 0} → (P → Surely Q) → ((P → ⊥) → Surely Q) → Surely Q
-either f g n = g (λ p. f p n) n
+pub use Rattle.el_design.proofs.Bounds.{Surely, sure, surely, either, IsConstantLoop}
+use Rattle.el_design.proofs.Bounds.{no_bound_of}
 
 -- the exits of a statement: past it, or past the nearest end with a mark
 abbrev pub lands : Option ℕ → List Work → Option (List Work)
@@ -190,7 +178,7 @@ module _ (d : Flat) (below : List Work) where
       no_end (endless_while c h) = let e : true ≡ false = sym h ∙ g c in cc
 
       free : (IsConstantLoop d (While at test body) → ⊥) → Surely (Walks d marks (Do (While at test body) ∷ k) r)
-      free n = leaves_free (While at test body) body (record { body_is = refl; no_bound = n; no_end = no_end }) tt (λ k. refl) marks k r a l
+      free n = leaves_free (While at test body) body (record { body_is = refl; no_bound = no_bound_of d n; no_end = no_end }) tt (λ k. refl) marks k r a l
 
   -- or by a jump, where its test may hold
   pub leaves_while_turn : (at : Place) (test : Expr) (body : Statement) (m : ℕ) → MayGo d test true → Leaves d below body (Some m) → Leaves d below (While at test body) (Some m)
@@ -203,7 +191,7 @@ module _ (d : Flat) (below : List Work) where
       free : (IsConstantLoop d (While at test body) → ⊥) → Surely (Walks d marks (Do (While at test body) ∷ k) r)
       free n = either {P = IsEndlessWhile d (While at test body)}
           (λ h. leaves_endless_while (While at test body) body m refl h v marks k r a l)
-          (λ no_end. leaves_free_turn (While at test body) body m (record { body_is = refl; no_bound = n; no_end = no_end }) tt (λ k. refl) v marks k r a l)
+          (λ no_end. leaves_free_turn (While at test body) body m (record { body_is = refl; no_bound = no_bound_of d n; no_end = no_end }) tt (λ k. refl) v marks k r a l)
 
   not_endless_while_for : (at : Place) (v : ℕ) (first test next : Expr) (body : Statement) → IsEndlessWhile d (For at v first test next body) → ⊥
   not_endless_while_for at v first test next body h = elim h [ ]
@@ -218,7 +206,7 @@ module _ (d : Flat) (below : List Work) where
       constant (inr t) = absurd (never t)
 
       free : (IsConstantLoop d (For at v first test next body) → ⊥) → Surely (Walks d marks (Do (For at v first test next body) ∷ k) r)
-      free n = leaves_free (For at v first test next body) body (record { body_is = refl; no_bound = n; no_end = not_endless_while_for at v first test next body }) g (λ k. refl) marks k r a l
+      free n = leaves_free (For at v first test next body) body (record { body_is = refl; no_bound = no_bound_of d n; no_end = not_endless_while_for at v first test next body }) g (λ k. refl) marks k r a l
 
   -- or by a jump, where its test may hold, and it takes a turn if it is counted
   pub leaves_for_turn : (at : Place) (v : ℕ) (first test next : Expr) (body : Statement) (m : ℕ) → MayGo d test true →
@@ -234,7 +222,7 @@ module _ (d : Flat) (below : List Work) where
       constant (inr t) = leaves_endless_for (For at v first test next body) body m refl t w marks k r a l
 
       free : (IsConstantLoop d (For at v first test next body) → ⊥) → Surely (Walks d marks (Do (For at v first test next body) ∷ k) r)
-      free n = leaves_free_turn (For at v first test next body) body m (record { body_is = refl; no_bound = n; no_end = not_endless_while_for at v first test next body }) g (λ k. refl) w marks k r a l
+      free n = leaves_free_turn (For at v first test next body) body m (record { body_is = refl; no_bound = no_bound_of d n; no_end = not_endless_while_for at v first test next body }) g (λ k. refl) w marks k r a l
 
   not_endless_repeat : (at : Place) (count : Expr) (body : Statement) → IsEndlessFor d (Repeat at count body) → ⊥
   not_endless_repeat at count body h = elim h [ ]
@@ -250,7 +238,7 @@ module _ (d : Flat) (below : List Work) where
       constant (inr t) = absurd (not_endless_repeat at count body t)
 
       free : (IsConstantLoop d (Repeat at count body) → ⊥) → Surely (Walks d marks (Do (Repeat at count body) ∷ k) r)
-      free n = leaves_free (Repeat at count body) body (record { body_is = refl; no_bound = n; no_end = not_endless_while_repeat at count body }) tt (λ k. refl) marks k r a l
+      free n = leaves_free (Repeat at count body) body (record { body_is = refl; no_bound = no_bound_of d n; no_end = not_endless_while_repeat at count body }) tt (λ k. refl) marks k r a l
 
   pub leaves_repeat_turn : (at : Place) (count : Expr) (body : Statement) (m : ℕ) → (HasTurns d (Repeat at count body) 0 → ⊥) → Leaves d below body (Some m) → Leaves d below (Repeat at count body) (Some m)
   leaves_repeat_turn at count body m some w marks k r a l = either {P = IsConstantLoop d (Repeat at count body)} constant free
@@ -264,4 +252,4 @@ module _ (d : Flat) (below : List Work) where
       constant (inr t) = absurd (not_endless_repeat at count body t)
 
       free : (IsConstantLoop d (Repeat at count body) → ⊥) → Surely (Walks d marks (Do (Repeat at count body) ∷ k) r)
-      free n = leaves_free_turn (Repeat at count body) body m (record { body_is = refl; no_bound = n; no_end = not_endless_while_repeat at count body }) tt (λ k. refl) w marks k r a l
+      free n = leaves_free_turn (Repeat at count body) body m (record { body_is = refl; no_bound = no_bound_of d n; no_end = not_endless_while_repeat at count body }) tt (λ k. refl) w marks k r a l

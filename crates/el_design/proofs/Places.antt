@@ -129,7 +129,7 @@ module _ (d : Flat) (marks : List ℕ) (s : Statement) where
   turn_placed at zero body k h p = p
   turn_placed at (suc n) body k h p = (h, (h, p))
 
-  step_placed : {k next : List Work} → Steps d marks k next → Placed k → Placed next
+  pub step_placed : {k next : List Work} → Steps d marks k next → Placed k → Placed next
   step_placed (walk.quietly {k = k} {next = next} e) p = quiet_placed k next e p
   step_placed walk.assigns p = p.1
   step_placed (walk.goes_yes h) p = (onward p.0 (in_then itself), p.1)

@@ -206,7 +206,7 @@ inner = record {
   ins = [];
   outs = 3 ∷ [];
   body = block (assign 3 d_in ∷ posedge ∷ assign 3 (Binary (u 8) op.Add (Variable (u 8) 3) d_in) ∷ posedge
-      ∷ If (at 1) (Select (u 1) d_in (Bit (int 0))) (Disable (at 1) 2) Null ∷ []);
+      ∷ If (at 1) (Select (u 1) d_in (Bit (int 0)) 0) (Disable (at 1) 2) Null ∷ []);
 }
 
 abbrev outer : FlatTask

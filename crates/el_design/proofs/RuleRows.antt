@@ -3,6 +3,8 @@ use Rattle.std.proofs.Common.{◌≡◌, ◌⊎◌, inl, inr, ◌<◌, ◌≤◌
 use Rattle.std.specs.Prelude.{Contains, nat_lt}
 use Rattle.std.proofs.lemmas.Bool.Decides.{nat_tests}
 use Rattle.xt_base.specs.declared.refusals.Place.{Place}
+use Rattle.xt_base.specs.declared.refusals.Refusal.{Refusal}
+use Rattle.xt_base.specs.First.{stands_before, IsNamed}
 use Rattle.xt_bits.specs.Word.{Word, word, truth}
 use Rattle.xt_bits.specs.Operators.{lt_of}
 use Rattle.el_design.specs.declared.designs.Import.{Import}
@@ -11,17 +13,18 @@ use Rattle.el_design.specs.Plain.{Expr, Number, NetValue, Variable, Binary, Call
 use Rattle.el_design.specs.Store.{stored}
 use Rattle.el_design.specs.Value.{is_up}
 use Rattle.el_design.specs.Names.{nodes_of, called, calls_in}
-use Rattle.el_design.specs.InPlace.{Stands, itself, in_first, in_rest, in_block, in_named, in_then, in_task, Meets, LoopAt, loop_of_process, loop_of_function, IsPart, task_part, block_part}
+use Rattle.el_design.specs.InPlace.{Stands, itself, in_first, in_rest, in_block, in_named, in_then, in_task, HasInPlace, Meets, LoopAt, loop_of_process, loop_of_function, IsPart, task_part, block_part}
 use Rattle.el_design.specs.Touches.{writes_blocking, writes_nonblocking, by_blocking, reads, reads_net, names_it, depends}
-use Rattle.el_design.specs.Turns.{turned, HasTurns, of_while, endless_for, IsConstantLoop, body_of}
+use Rattle.el_design.specs.Turns.{turned, HasBound, bound_while, endless_for, body_of}
 use Rattle.el_design.specs.Walk as walk
 use Rattle.el_design.specs.Walk.{HasWalk}
 use Rattle.el_design.specs.Sizes.{Counting, size_of, function_size, counting, Stopping, stops_in, stopping, CountsTurns, CountsStops, u_of, s_of, net_size, nets_size, once}
 use Rattle.el_design.specs.Calls.{IsImpure, foreign, outside, early, leaves, result_place, IsRecursive, Routine, TaskOf, FunctionOf, BodyIs, task_body, function_body, leads_back, leads, there, onward, enables, calls, InText, CallMisfits, HasMisfit, misfit_enable, misfit_host, misfit_call, of_function, of_import, of_statement, of_net, in_process, in_routine, DisablesWrongly, not_own, also_other, in_function, CallsHostInside, inside_statement, inside_net, import_number, Chain, no_more, one_more}
 use Rattle.el_design.specs.Rules as rules
-use Rattle.el_design.specs.Rules.{max_u, max_s, max_products, max_nets_size, products, NestsTooDeep, process_nests, net_nests, process_large, SpinsAt, loop_spins, always_spins, TurnsTooOften, too_many, without_end, IsTooLarge, large_u, large_s, large_products, large_nets, TwoWriters, two_write, WrittenBothWays, both_ways, ReadAcross, variable_across, net_across, NetsInCircle, circle, Breaks, IsBefore, IsFirst}
+use Rattle.el_design.specs.Rules.{max_u, max_s, max_products, max_nets_size, products, NestsTooDeep, process_nests, net_nests, process_large, SpinsAt, loop_spins, always_spins, TurnsTooOften, too_many, without_end, IsTooLarge, large_u, large_s, large_products, large_nets, TwoWriters, two_write, WrittenBothWays, both_ways, ReadAcross, variable_across, net_across, NetsInCircle, circle, Breaks, IsBroken}
 use Rattle.el_design.proofs.OrderLists.{con_nil, con_mapped}
 use Rattle.el_design.proofs.OrderPlaces.{got_con}
+use Rattle.el_design.proofs.Texts.{met_in_place, in_place_met}
 use Rattle.el_design.proofs.Sample.{at, reg, input, u, posedge, block, always, initial, assign, later, byte, exprs, design}
 use Rattle.el_design.proofs.SizeRows as sizes
 use Rattle.el_design.proofs.Races as races
@@ -32,6 +35,13 @@ meets_first d p ps e st = record { process = p; is = rw e refl; stands = st }
 
 meets_second : (d : Flat) (q p : FlatProc) (ps : List FlatProc) {marks : List ℕ} {x : Statement} → d.procs ≡ q ∷ p ∷ ps → Stands d.tasks [] p.body marks x → Meets d 1 marks x
 meets_second d q p ps e st = record { process = p; is = rw e refl; stands = st }
+
+-- and what either has in place
+first_has : (d : Flat) (p : FlatProc) (ps : List FlatProc) {marks : List ℕ} {x : Statement} → d.procs ≡ p ∷ ps → Stands d.tasks [] p.body marks x → HasInPlace d 0 x
+first_has d p ps e st = met_in_place (meets_first d p ps e st)
+
+second_has : (d : Flat) (q p : FlatProc) (ps : List FlatProc) {marks : List ℕ} {x : Statement} → d.procs ≡ q ∷ p ∷ ps → Stands d.tasks [] p.body marks x → HasInPlace d 1 x
+second_has d q p ps e st = met_in_place (meets_second d q p ps e st)
 
 -- ---- loops (rules 61, 83 and 84)
 
@@ -54,12 +64,8 @@ asked_loop = While (at 2) (NetValue (u 1) 1) (assign 0 (byte 1))
 abbrev no_wait : Flat
 no_wait = design (reg 8 ∷ []) (input 1 ∷ []) (initial asked_loop ∷ []) (1 ∷ []) []
 
-asked_without_bound : IsConstantLoop no_wait asked_loop → ⊥
-asked_without_bound (inl t) = no_turns t.0 t.1
-  where
-    no_turns : (n : ℕ) → HasTurns no_wait asked_loop n → ⊥
-    no_turns n (of_while c e) = cc
-asked_without_bound (inr t) = elim t [ ]
+asked_without_bound : HasBound no_wait asked_loop → ⊥
+asked_without_bound (bound_while c e) = cc
 
 asked_loop_spins : SpinsAt no_wait (at 2)
 asked_loop_spins = loop_spins (loop_of_process (meets_first no_wait _ _ refl itself)) refl asked_without_bound (walk.then walk.assigns walk.stays)
@@ -213,11 +219,11 @@ second_meets {marks = marks} {x = x} m =
     stands_in_disable (subst (λ s. Stands [] [] s marks x) (sym e) m.stands)
 
 second_has_none : IsPart block_of_other 1 0 → ⊥
-second_has_none (block_part m) = let e : _ ≡ _ = second_meets m in cc
-second_has_none (task_part m e i) = let e : _ ≡ _ = second_meets m in cc
+second_has_none (block_part h) = let e : _ ≡ _ = second_meets (in_place_met h).1 in cc
+second_has_none (task_part h e i) = let e : _ ≡ _ = second_meets (in_place_met h).1 in cc
 
 block_of_other_disables : DisablesWrongly block_of_other (at 2)
-block_of_other_disables = not_own {p = 1} (meets_second block_of_other _ _ _ refl itself) second_has_none
+block_of_other_disables = not_own {p = 1} (second_has block_of_other _ _ _ refl itself) second_has_none
 
 -- `task t; begin : b @(posedge clk); if (a) disable b; end endtask`, enabled by two processes
 abbrev block_of_two : Flat
@@ -228,8 +234,8 @@ block_of_two = record (design [] (input 1 ∷ []) (always (enable 4 0) ∷ alway
 
 block_of_two_disables : DisablesWrongly block_of_two (at 3)
 block_of_two_disables = also_other {p = 0} {q = 1}
-    (meets_first block_of_two _ _ refl (in_task refl (in_named (in_rest (in_first (in_then itself))))))
-    (λ e. omega (arith, e)) (block_part (meets_second block_of_two _ _ _ refl (in_task refl itself)))
+    (first_has block_of_two _ _ refl (in_task refl (in_named (in_rest (in_first (in_then itself))))))
+    (λ e. omega (arith, e)) (block_part (second_has block_of_two _ _ _ refl (in_task refl itself)))
 
 -- an import in an expression: `x = h() + 1`, where functions are none, so the import has the number 0
 abbrev asks_inside : Flat
@@ -238,7 +244,7 @@ asks_inside = record (design (reg 8 ∷ []) [] (initial (assign 0 (Binary (u 8) 
 }
 
 asks_inside_calls : CallsHostInside asks_inside (at 1)
-asks_inside_calls = inside_statement (meets_first asks_inside _ _ refl itself) (0, omega arith, refl) (0, omega arith, refl) (import_number {i = 0} refl)
+asks_inside_calls = inside_statement (first_has asks_inside _ _ refl itself) (0, omega arith, refl) (0, omega arith, refl) (import_number {i = 0} refl)
 
 -- `assign a = h();`
 abbrev asks_in_net : Flat
@@ -254,8 +260,8 @@ with_function s = record (design (reg 8 ∷ reg 8 ∷ []) [] [] [] []) { funcs =
 reads_outside : IsImpure (with_function (assign 1 (Variable (u 8) 0))) (at 1)
 reads_outside = outside (0, omega arith, refl) ([], itself) refl
 
-reads_early : IsImpure (with_function (assign 1 (Binary (u 8) op.Add (Variable (u 8) 1) (byte 1)))) (at 1)
-reads_early = early (0, omega arith, refl) (0, omega arith, refl)
+reads_early_shown : IsImpure (with_function (assign 1 (Binary (u 8) op.Add (Variable (u 8) 1) (byte 1)))) (at 1)
+reads_early_shown = early (0, omega arith, refl) refl (result_place refl refl)
 
 leaves_its_result : IsImpure (with_function Null) (at 1)
 leaves_its_result = leaves (0, omega arith, refl) refl (result_place refl refl)
@@ -377,23 +383,23 @@ nets_large =
 
 two_writers : TwoWriters races.two_write (at 1)
 two_writers = two_write {p = 0} {q = 1} refl (λ e. omega (arith, e))
-    (by_blocking (writes_blocking (meets_first races.two_write _ _ refl itself) (0, omega arith, refl))) (by_blocking (writes_blocking (meets_second races.two_write _ _ _ refl itself) (0, omega arith, refl)))
+    (by_blocking (writes_blocking (first_has races.two_write _ _ refl itself) (0, omega arith, refl))) (by_blocking (writes_blocking (second_has races.two_write _ _ _ refl itself) (0, omega arith, refl)))
 
 -- `begin x <= 1; x = 2; end`
 abbrev both_kinds : Flat
 both_kinds = design (reg 8 ∷ []) [] (initial (block (later 0 (byte 1) ∷ assign 0 (byte 2) ∷ [])) ∷ []) [] (0 ∷ [])
 
 written_both_ways : WrittenBothWays both_kinds (at 1)
-written_both_ways = both_ways {p = 0} refl (writes_blocking (meets_first both_kinds _ _ refl (in_rest (in_first itself))) (0, omega arith, refl))
-    (writes_nonblocking (meets_first both_kinds _ _ refl (in_first itself)) (0, omega arith, refl))
+written_both_ways = both_ways {p = 0} refl (writes_blocking (first_has both_kinds _ _ refl (in_rest (in_first itself))) (0, omega arith, refl))
+    (writes_nonblocking (first_has both_kinds _ _ refl (in_first itself)) (0, omega arith, refl))
 
 read_across : ReadAcross races.reads_across (at 1)
-read_across = variable_across {p = 0} {q = 1} {v = 0} refl (writes_blocking (meets_first races.reads_across _ _ refl itself) (0, omega arith, refl)) (λ e. omega (arith, e))
-    (reads (meets_second races.reads_across _ _ _ refl itself) (0, omega arith, refl))
+read_across = variable_across {p = 0} {q = 1} {v = 0} refl (writes_blocking (first_has races.reads_across _ _ refl itself) (0, omega arith, refl)) (λ e. omega (arith, e))
+    (reads (second_has races.reads_across _ _ _ refl itself) (0, omega arith, refl))
 
 read_over_net : ReadAcross races.over_net (at 1)
-read_over_net = net_across {p = 0} {q = 1} {v = 0} {n = 1} refl (writes_blocking (meets_first races.over_net _ _ refl itself) (0, omega arith, refl))
-    (names_it (record { net = _; is = refl; value = refl }) (0, omega arith, refl)) (reads_net (meets_second races.over_net _ _ _ refl itself) (0, omega arith, refl))
+read_over_net = net_across {p = 0} {q = 1} {v = 0} {n = 1} refl (writes_blocking (first_has races.over_net _ _ refl itself) (0, omega arith, refl))
+    (names_it (record { net = _; is = refl; value = refl }) (0, omega arith, refl)) (reads_net (second_has races.over_net _ _ _ refl itself) (0, omega arith, refl))
 
 -- `assign a = a;`
 abbrev own_value : Flat
@@ -422,14 +428,14 @@ same_place a b e = ap (λ o. elim o [ Some n ↦ n.place | None ↦ a.place ]) e
 same_expression : (a b : Expr) → Some a ≡ Some b → a ≡ b
 same_expression a b e = cc
 
--- the nets with calls stand on line 2 or later
-lines_of_calls : (i f : ℕ) (net : FlatNet) (e : Expr) → slice_get five_breaks.nets i ≡ Some net → net.value ≡ Some e → Contains (calls_in e) f → IsBefore (at 2) net.place ⊎ (at 2 ≡ net.place)
+-- the nets with calls stand on line 2 or 3
+lines_of_calls : (i f : ℕ) (net : FlatNet) (e : Expr) → slice_get five_breaks.nets i ≡ Some net → net.value ≡ Some e → Contains (calls_in e) f → (at 3 ≡ net.place) ⊎ (at 2 ≡ net.place)
 lines_of_calls zero f net e is v c = let none : None ≡ Some e = same_value (input 1) net is ∙ v in cc
 lines_of_calls (suc zero) f net e is v c =
     let own : NetValue (u 8) 1 ≡ e = same_expression (NetValue (u 8) 1) e (same_value (record (input 8) { value = Some (NetValue (u 8) 1) }) net is ∙ v) in
     absurd (con_nil f (subst (λ x. Contains (calls_in x) f) (sym own) c))
 lines_of_calls (suc (suc zero)) f net e is v c = inr (same_place (asks 2) net is)
-lines_of_calls (suc (suc (suc zero))) f net e is v c = inl (subst (IsBefore (at 2)) (same_place (asks 3) net is) (inr (inr (refl, refl, omega arith))))
+lines_of_calls (suc (suc (suc zero))) f net e is v c = inl (same_place (asks 3) net is)
 lines_of_calls (suc (suc (suc (suc i)))) f net e is v c = cc
 
 -- the design has no task, function or process
@@ -441,7 +447,7 @@ no_text : {x : Statement} → InText five_breaks x → ⊥
 no_text (in_process c h) = con_nil _ c
 no_text (in_routine b h) = no_body b
 
-no_meeting : {p : ℕ} {marks : List ℕ} {x : Statement} → Meets five_breaks p marks x → ⊥
+no_meeting : {p : ℕ} {x : Statement} → HasInPlace five_breaks p x → ⊥
 no_meeting m = let none : None ≡ Some m.process = m.is in cc
 
 -- what misfits is a call
@@ -449,21 +455,25 @@ misfit_called : {c : Expr} → CallMisfits five_breaks c → (f : ℕ) × (calle
 misfit_called (of_function {f = f} m) = (f, refl)
 misfit_called (of_import {f = f} i m) = (f, refl)
 
--- a break of this rule at this place isn't before the one that is named
+-- the break that is named
+abbrev named : Refusal
+named = record { rule = record { 0 = 52 }; place = at 2 }
+
+-- a break of this rule at this place doesn't stand before it
 abbrev Least : ℕ → Place → Type 0
-Least rule b = IsBefore (at 2) b ⊎ ((at 2 ≡ b) × (52 ≤ rule))
+Least rule b = stands_before (record { rule = record { 0 = rule }; place = b }) named ≡ false
 
 least_of_nets : (rule f : ℕ) (net : FlatNet) (e : Expr) → 52 ≤ rule → Contains five_breaks.nets net → net.value ≡ Some e → Contains (calls_in e) f → Least rule net.place
 least_of_nets rule f net e l c v h = go (lines_of_calls (got_con five_breaks.nets net c).0 f net e (got_con five_breaks.nets net c).1 v h)
   where
-    go : IsBefore (at 2) net.place ⊎ (at 2 ≡ net.place) → Least rule net.place
-    go (inl b) = inl b
-    go (inr e) = inr (e, l)
+    go : (at 3 ≡ net.place) ⊎ (at 2 ≡ net.place) → Least rule net.place
+    go (inl e) = subst (Least rule) e refl
+    go (inr e) = subst (Least rule) e (let m : nat_lt rule 52 ≡ false = grind (arith, nat_tests, l) in m)
 
 least_of_pass : {pass rule : ℕ} {b : Place} → Breaks five_breaks pass rule b → pass ≡ 11 → Least rule b
 least_of_pass (rules.impure (foreign c h i)) e = absurd (con_nil _ c)
 least_of_pass (rules.impure (outside c h i)) e = absurd (con_nil _ c)
-least_of_pass (rules.impure (early c h)) e = absurd (con_nil _ c)
+least_of_pass (rules.impure (early c h i)) e = absurd (con_nil _ c)
 least_of_pass (rules.impure (leaves c h i)) e = absurd (con_nil _ c)
 least_of_pass (rules.recursive (leads_back (leads b h i) t)) e = absurd (no_body b)
 least_of_pass (rules.misfit (misfit_enable t i)) e = absurd (no_text t)
@@ -503,9 +513,11 @@ passes_from (rules.both_kinds h) = omega arith
 passes_from (rules.across h) = omega arith
 passes_from (rules.nets_circle h) = omega arith
 
-first_of_five : IsFirst five_breaks 11 52 (at 2)
+first_of_five : IsNamed (IsBroken five_breaks) 11 named
 first_of_five = record {
-  broken = rules.misfit (misfit_call (of_net (2, omega arith, refl) refl) (0, omega arith, refl) (of_import (import_number {i = 0} refl) refl));
-  no_earlier = λ other rule b l h. let from : 11 ≤ other = passes_from h in absurd (omega (arith, l, from));
-  least = λ r b h. least_of_pass h refl;
+  first = record {
+    broken = rules.misfit (misfit_call (of_net (2, omega arith, refl) refl) (0, omega arith, refl) (of_import (import_number {i = 0} refl) refl));
+    least = λ other h. least_of_pass h refl;
+  };
+  clean_before = λ earlier other l h. let from : 11 ≤ earlier = passes_from h in absurd (omega (arith, l, from));
 }

@@ -11,17 +11,18 @@ use Rattle.el_design.specs.Store.{Store, put_all}
 use Rattle.el_design.specs.Value.{value, is_up}
 use Rattle.el_design.specs.Assign.{writes_of}
 use Rattle.el_design.specs.InPlace.{Stands, itself, in_for, LoopAt, loop_of_process}
-use Rattle.el_design.specs.Turns.{fixed, turned, goes_on, IsFreeOf, HasTurns, of_for}
+use Rattle.el_design.specs.Turns.{fixed, turned, goes_on, stored_by, IsFreeOf, HasTurns, of_for}
 use Rattle.el_design.specs.Walk as walk
 use Rattle.el_design.specs.Walk.{Walks, IsUnrolled}
 use Rattle.el_design.specs.Act.{turn}
 use Rattle.el_design.specs.Sizes.{CountsTurns, counting, in_place, task_size, size_of, u_of, s_of, total_size}
+use Rattle.el_design.proofs.Texts.{free_of}
 use Rattle.el_design.proofs.Sample.{at, reg, input, u, signed, posedge, block, always, initial, assign, later, int, design}
 
 -- ---- `always begin`, 200 lines `if (d[0]) begin @(posedge clk); n <= n + 1; end`, `@(posedge clk); end`
 
 abbrev branch : Statement
-branch = If (at 1) (Select (u 1) (NetValue (u 8) 1) (Bit (int 0)))
+branch = If (at 1) (Select (u 1) (NetValue (u 8) 1) (Bit (int 0)) 0)
     (Block (at 1) None (block (posedge ∷ later 0 (Binary (u 32) op.Add (Resize (u 32) (Variable (u 16) 0)) (int 1)) ∷ []))) Null
 
 abbrev branches : FlatProc
@@ -129,12 +130,18 @@ module _ (s : Statement) where
   lone v w differ (zero, h, e) = differ e
   lone v w differ (suc k, h, e) = absurd (omega (arith, h))
 
+  sum_stores : (v : ℕ) → (0 ≡ v → ⊥) → (marks o : List ℕ) (x : Statement) → Stands [] marks more_by_one o x → Contains (stored_by (looping s) x) v → ⊥
+  sum_stores v differ marks o x itself c = lone 0 v differ c
+
   pub sum_is_free : (v : ℕ) → (0 ≡ v → ⊥) → IsFreeOf (looping s) v more_by_one
-  sum_is_free v differ marks o x itself c = lone 0 v differ c
+  sum_is_free v differ = free_of (looping s) v more_by_one (sum_stores v differ)
+
+  inner_stores : (marks o : List ℕ) (x : Statement) → Stands [] marks inner o x → Contains (stored_by (looping s) x) 1 → ⊥
+  inner_stores marks o x itself c = lone 2 1 (λ e. omega (arith, e)) c
+  inner_stores marks o x (in_for h) c = sum_stores 1 (λ e. omega (arith, e)) marks o x h c
 
   inner_is_free : IsFreeOf (looping s) 1 inner
-  inner_is_free marks o x itself c = lone 2 1 (λ e. omega (arith, e)) c
-  inner_is_free marks o x (in_for h) c = sum_is_free 1 (λ e. omega (arith, e)) marks o x h c
+  inner_is_free = free_of (looping s) 1 inner inner_stores
 
   -- a walk through the inner loop's turns
   inner_walk : (n : ℕ) → Walks (looping s) [] (turn (at 1) n more_by_one []) []

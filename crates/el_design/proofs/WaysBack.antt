@@ -8,14 +8,14 @@ use Rattle.el_design.specs.Purity.{contains_number}
 use Rattle.el_design.specs.Stack.{Work, Do, End, Return, Test, Step, Turns, Await, quiet_step, below_mark}
 use Rattle.el_design.specs.Act.{turn}
 use Rattle.el_design.specs.Places.{open_on}
-use Rattle.el_design.specs.Turns.{fixed, holds, stored_by, goes_on, HasTurns, of_repeat, of_while, of_for, IsEndlessFor, endless_for, IsEndlessWhile, endless_while, IsConstantLoop, body_of}
+use Rattle.el_design.specs.Turns.{fixed, holds, stored_by, goes_on, HasBound, bound_repeat, bound_while, bound_for, HasTurns, of_repeat, of_while, of_for, IsEndlessFor, endless_for, IsEndlessWhile, endless_while, body_of}
 use Rattle.el_design.specs.Walk as walk
 use Rattle.el_design.specs.Walk.{choices, is_constant_case, MayGo, MayTurn, IsFreeLoop, Steps, Walks, HasWalk}
 use Rattle.el_design.specs.Rules.{IsCleanBefore}
 use Rattle.el_design.proofs.OrderLists.{con_nil, con_cases}
 use Rattle.el_design.proofs.Ways.{Past, Away, Ways, never, simply, after, ending, choosing, turning, is_zero, repeating, fors, may, Mode, Lone, Any, Fixed, mode_of, all_ways, at_enable}
 use Rattle.el_design.proofs.WaysPuts.{one_of, first_of, second_of, left_of, right_of, both_are, not_so, so_not, true_or_false, clash, con_has, counted_is}
-use Rattle.el_design.proofs.WaysFound.{go_may, constant_for, way_of, loops}
+use Rattle.el_design.proofs.WaysFound.{go_may, way_of, loops}
 
 -- ---- ways put together
 
@@ -288,11 +288,11 @@ module _ (d : Flat) (clean : IsCleanBefore d 13) where
         (subst (λ x. Reaches (Do x ∷ Do (While at test own) ∷ k)) (sym (some_is own body b)) r)
 
     -- a `for` that isn't constant isn't counted
-    not_counted : (at : Place) (v : ℕ) (first test next : Expr) (body : Statement) → (IsConstantLoop d (For at v first test next body) → ⊥) → loops d clean v first test next body ≡ false
+    not_counted : (at : Place) (v : ℕ) (first test next : Expr) (body : Statement) → (HasBound d (For at v first test next body) → ⊥) → loops d clean v first test next body ≡ false
     not_counted at v first test next body f = go (true_or_false (loops d clean v first test next body))
       where
         go : (loops d clean v first test next body ≡ true) ⊎ (loops d clean v first test next body ≡ false) → loops d clean v first test next body ≡ false
-        go (inl h) = absurd (constant_for d at v first test next body (Rattle.el_design.proofs.WaysPuts.is_counted d clean v first test next body h) f)
+        go (inl h) = absurd (f (bound_for (Rattle.el_design.proofs.WaysPuts.is_counted d clean v first test next body h)))
         go (inr h) = h
 
     not_constant : (at : Place) (test : Expr) (body own : Statement) → IsFreeLoop d (While at test body) own → is_constant test ≡ false
@@ -301,14 +301,14 @@ module _ (d : Flat) (clean : IsCleanBefore d 13) where
         go : (is_constant test ≡ true) ⊎ (is_constant test ≡ false) → (holds d test ≡ true) ⊎ (holds d test ≡ false) → is_constant test ≡ false
         go (inr c) h = c
         go (inl c) (inl h) = absurd (f.no_end (endless_while c h))
-        go (inl c) (inr h) = absurd (f.no_bound (inl (0, of_while c h)))
+        go (inl c) (inr h) = absurd (f.no_bound (bound_while c h))
 
     not_repeated : (at : Place) (count : Expr) (body own : Statement) → IsFreeLoop d (Repeat at count body) own → is_constant count ≡ false
     not_repeated at count body own f = go (true_or_false (is_constant count))
       where
         go : (is_constant count ≡ true) ⊎ (is_constant count ≡ false) → is_constant count ≡ false
         go (inr c) = c
-        go (inl c) = absurd (f.no_bound (inl (_, of_repeat c)))
+        go (inl c) = absurd (f.no_bound (bound_repeat c))
 
     free_past : (s body : Statement) (k : List Work) → IsFreeLoop d s body → MayTurn d s false → quiet_step (Do s ∷ k) ≡ None → here (Do s) k Past ≡ true
     free_past (For at v first test next own) body k f g q =

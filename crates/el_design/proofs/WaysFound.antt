@@ -1,5 +1,5 @@
 -- Where a statement may be left by its ways, there is a walk.
-use Rattle.std.proofs.Common.{◌≡◌, ◌⊎◌, inl, inr, ℕ, zero, suc, ◌<◌, ◌≤◌, ◌==◌, ◌&&◌, ◌||◌, not, Bool, true, false, if◌then◌else◌, List, [], ◌∷◌, Option, Some, None, Contains, slice_get, length, refl, sym, ◌∙◌, ap, subst, arith, T, eqb→eq, eq-eqb}
+use Rattle.std.proofs.Common.{◌≡◌, ◌⊎◌, inl, inr, ℕ, zero, suc, ◌<◌, ◌==◌, ◌&&◌, ◌||◌, not, Bool, true, false, if◌then◌else◌, List, [], ◌∷◌, Option, Some, None, Contains, slice_get, length, refl, sym, ◌∙◌, ap, subst, arith, T, eqb→eq, eq-eqb}
 use Rattle.xt_base.specs.declared.refusals.Place.{Place}
 use Rattle.el_design.specs.Plain.{Expr, Lvalue, Statement, Null, Skip, Seq, Block, Assign, If, Case, Arm, For, While, Repeat, Forever, Wait, Enable, Disable, Host, FlatTask, Flat}
 use Rattle.el_design.specs.Assign.{has_label, arm_chosen, count_of}
@@ -7,12 +7,13 @@ use Rattle.el_design.specs.Names.{is_constant}
 use Rattle.el_design.specs.Purity.{contains_number}
 use Rattle.el_design.specs.Stack.{Work, End, below_mark}
 use Rattle.el_design.specs.InPlace.{Stands, itself, in_first, in_rest, in_block, in_named, in_then, in_else, in_case, in_arm, in_others, in_for, in_while, in_repeat, in_forever, in_task, LoopAt}
-use Rattle.el_design.specs.Turns.{fixed, holds, stored_by, goes_on, IsCounted, HasTurns, of_repeat, of_for, IsEndlessFor, endless_for, IsConstantLoop}
+use Rattle.el_design.specs.Turns.{fixed, holds, stored_by, goes_on, IsCounted, HasBound, bound_for, HasTurns, of_repeat, of_for, IsEndlessFor, endless_for}
 use Rattle.el_design.specs.Walk.{choices, is_constant_case, MayGo, HasWalk}
 use Rattle.el_design.specs.Rules.{IsCleanBefore, without_end, turns}
 use Rattle.el_design.proofs.OrderLists.{con_head, con_tail, con_nil, con_cases}
-use Rattle.el_design.proofs.OrderRule.{Opens, walked, split}
-use Rattle.el_design.proofs.OrderWalk.{Surely, surely, Leaves, leaves_null, leaves_skip, leaves_seq, leaves_first, leaves_block, leaves_named, leaves_ended, leaves_through, leaves_assign, leaves_then, leaves_else, leaves_case, leaves_host, leaves_passed, leaves_disabled, leaves_enable, leaves_task, leaves_enabled, leaves_forever, leaves_turns, leaves_turn, leaves_endless_for, leaves_free, leaves_free_turn, leaves_while, leaves_while_turn, leaves_repeat, leaves_repeat_turn}
+use Rattle.el_design.proofs.OrderRule.{Opens, walked}
+use Rattle.el_design.proofs.Bounds.{Surely, surely, IsConstantLoop, constant_for}
+use Rattle.el_design.proofs.OrderWalk.{Leaves, leaves_null, leaves_skip, leaves_seq, leaves_first, leaves_block, leaves_named, leaves_ended, leaves_through, leaves_assign, leaves_then, leaves_else, leaves_case, leaves_host, leaves_passed, leaves_disabled, leaves_enable, leaves_task, leaves_enabled, leaves_forever, leaves_turns, leaves_turn, leaves_endless_for, leaves_free, leaves_free_turn, leaves_while, leaves_while_turn, leaves_repeat, leaves_repeat_turn}
 use Rattle.el_design.proofs.Ways.{Way, Past, Away, Ways, never, simply, after, ending, choosing, turning, stopping, enabling, is_zero, repeating, fors, may, Mode, Lone, Any, Fixed, takes, skips, mode_of, ways, body_ways, task_ways, all_ways}
 use Rattle.el_design.proofs.WaysPuts.{one_of, left_of, right_of, not_so, clash, counted_for, is_counted, counted_is}
 
@@ -73,23 +74,6 @@ shut (n ∷ marks) m e = go (n == m) e (shut marks m)
 -- ---- loops
 
 module _ (d : Flat) where
-  upto : (at : Place) (v : ℕ) (first test next : Expr) (body : Statement) → IsCounted d v first test next body → (IsConstantLoop d (For at v first test next body) → ⊥) →
-      (n k : ℕ) → k < n → goes_on d v first test next k ≡ true
-  upto at v first test next body c none_is zero k h = absurd (omega arith)
-  upto at v first test next body c none_is (suc n) k h = go (split n k) (upto at v first test next body c none_is n)
-    where
-      here : ((k : ℕ) → k < n → goes_on d v first test next k ≡ true) → (b : Bool) → goes_on d v first test next n ≡ b → goes_on d v first test next n ≡ true
-      here f true e = e
-      here f false e = absurd (none_is (inl (n, of_for c f e)))
-
-      go : (n ≤ k) ⊎ (k < n) → ((k : ℕ) → k < n → goes_on d v first test next k ≡ true) → goes_on d v first test next k ≡ true
-      go (inr l) f = f k l
-      go (inl l) f = let e : n ≡ k = omega arith in subst (λ j. goes_on d v first test next j ≡ true) e (here f (goes_on d v first test next n) refl)
-
-  -- a counted `for` takes so many turns, or never ends
-  pub constant_for : (at : Place) (v : ℕ) (first test next : Expr) (body : Statement) → IsCounted d v first test next body → Surely (IsConstantLoop d (For at v first test next body))
-  constant_for at v first test next body c none_is = none_is (inr (endless_for c (λ k. upto at v first test next body c none_is (suc k) k (omega arith))))
-
   pub for_is : (at : Place) (v n : ℕ) (first test next : Expr) (body : Statement) → HasTurns d (For at v first test next body) n →
       IsCounted d v first test next body × ((k : ℕ) → k < n → goes_on d v first test next k ≡ true) × (goes_on d v first test next n ≡ false)
   for_is at v n first test next body (of_for c f g) = (c, f, g)
@@ -111,9 +95,8 @@ module _ (d : Flat) (clean : IsCleanBefore d 13) where
   abbrev pub loops : ℕ → Expr → Expr → Expr → Statement → Bool
   loops = counted_for d clean
 
-  pub free_for : (at : Place) (v : ℕ) (first test next : Expr) (body : Statement) → loops v first test next body ≡ false → IsConstantLoop d (For at v first test next body) → ⊥
-  free_for at v first test next body e (inl t) = clash (loops v first test next body) (counted_is d clean v first test next body (for_is d at v t.0 first test next body t.1).0) e
-  free_for at v first test next body e (inr t) = clash (loops v first test next body) (counted_is d clean v first test next body (endless_is d at v first test next body t).0) e
+  pub free_for : (at : Place) (v : ℕ) (first test next : Expr) (body : Statement) → loops v first test next body ≡ false → HasBound d (For at v first test next body) → ⊥
+  free_for at v first test next body e (bound_for c) = clash (loops v first test next body) (counted_is d clean v first test next body c) e
 
   abbrev Placed : List ℕ → Statement → Type 0
   Placed marks s = (o : List ℕ) (x : Statement) → Stands d.tasks marks s o x → LoopAt d o x

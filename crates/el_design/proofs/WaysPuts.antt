@@ -9,6 +9,7 @@ use Rattle.el_design.specs.InPlace.{Stands, itself, in_first, in_rest, in_block,
 use Rattle.el_design.specs.Turns.{fixed, stored_by, is_test_of, is_step_of, goes_on, IsCounted}
 use Rattle.el_design.specs.Walk.{is_constant_case}
 use Rattle.el_design.specs.Rules.{IsCleanBefore}
+use Rattle.el_design.proofs.Texts.{free_met, free_of}
 use Rattle.el_design.proofs.OrderLists.{con_head, con_tail, con_nil, con_cases}
 use Rattle.el_design.proofs.Ways.{Puts, Ways, enabling, repeating, fors, may, Mode, Lone, mode_of, ways, body_ways, task_ways, all_ways, at_enable}
 
@@ -206,7 +207,7 @@ module _ (d : Flat) (clean : IsCleanBefore d 13) where
         start_is = left_of (is_constant first) (is_test_of v test) ab;
         test_is = right_of (is_constant first) (is_test_of v test) ab;
         step_is = right_of (is_constant first && is_test_of v test) (is_step_of v next) abc;
-        free = λ marks o x st c. clash (stores v body) (there_puts d any_for v clean st c Lone []) (not_so (stores v body) (right_of (is_constant first && is_test_of v test && is_step_of v next) (not (stores v body)) e));
+        free = free_of d v body (λ marks o x st c. clash (stores v body) (there_puts d any_for v clean st c Lone []) (not_so (stores v body) (right_of (is_constant first && is_test_of v test && is_step_of v next) (not (stores v body)) e)));
       }
 
   pub counted_is : (v : ℕ) (first test next : Expr) (body : Statement) → IsCounted d v first test next body → counted_for v first test next body ≡ true
@@ -215,5 +216,5 @@ module _ (d : Flat) (clean : IsCleanBefore d 13) where
       both_are _ _ (both_are _ _ (both_are _ _ c.start_is c.test_is) c.step_is) (go (true_or_false (stores v body)))
     where
       go : (stores v body ≡ true) ⊎ (stores v body ≡ false) → not (stores v body) ≡ true
-      go (inl h) = absurd (puts_there d any_for v clean [] body h (λ o x st k. c.free [] o x st k))
+      go (inl h) = absurd (puts_there d any_for v clean [] body h (λ o x st k. free_met d v body c.free x st k))
       go (inr h) = so_not (stores v body) h

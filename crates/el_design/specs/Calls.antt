@@ -7,8 +7,8 @@ use Rattle.el_design.specs.declared.designs.Import.{Import}
 use Rattle.el_design.specs.declared.designs.Var.{Var}
 use Rattle.el_design.specs.Plain.{Shape, Expr, Call, Exprs, NoExpr, More, Lvalue, Statement, Enable, Disable, Host, FlatTask, FlatFunc, FlatNet, FlatProc, Flat}
 use Rattle.el_design.specs.Names.{nodes_of, calls_in, is_nowhere, own_expressions, place_of_statement}
-use Rattle.el_design.specs.InPlace.{Holds, Meets, IsPart}
-use Rattle.el_design.specs.Purity.{is_foreign, names_outside, function_early_reads, leaves_result}
+use Rattle.el_design.specs.InPlace.{HasInPlace, Holds, IsPart}
+use Rattle.el_design.specs.Purity.{is_foreign, names_outside, reads_early, leaves_result}
 
 -- ---- purity of functions (rule 50)
 
@@ -19,7 +19,7 @@ pub data IsPlaceOfFunction (d : Flat) (f : FlatFunc) (at : Place) : Type 0 where
 pub data IsImpure (d : Flat) : Place → Type 0 where
   foreign : {g : FlatFunc} {x : Statement} → Contains d.funcs g → Holds g.body x → is_foreign x ≡ true → IsImpure d (place_of_statement x)
   outside : {g : FlatFunc} {x : Statement} → Contains d.funcs g → Holds g.body x → names_outside d g x ≡ true → IsImpure d (place_of_statement x)
-  early : {g : FlatFunc} {at : Place} → Contains d.funcs g → Contains (function_early_reads g) at → IsImpure d at
+  early : {g : FlatFunc} {at : Place} → Contains d.funcs g → reads_early g ≡ true → IsPlaceOfFunction d g at → IsImpure d at
   leaves : {g : FlatFunc} {at : Place} → Contains d.funcs g → leaves_result g ≡ true → IsPlaceOfFunction d g at → IsImpure d at
 
 -- ---- recursion (rule 51): all edges count, of tasks and functions, by enables and calls
@@ -109,13 +109,13 @@ pub data HasMisfit (d : Flat) : Place → Type 0 where
 
 pub data DisablesWrongly (d : Flat) : Place → Type 0 where
   in_function : {g : FlatFunc} {m : ℕ} {at : Place} → Contains d.funcs g → Holds g.body (Disable at m) → DisablesWrongly d at
-  not_own : {p m : ℕ} {marks : List ℕ} {at : Place} → Meets d p marks (Disable at m) → (IsPart d p m → ⊥) → DisablesWrongly d at
-  also_other : {p q m : ℕ} {marks : List ℕ} {at : Place} → Meets d p marks (Disable at m) → q ≢ p → IsPart d q m → DisablesWrongly d at
+  not_own : {p m : ℕ} {at : Place} → HasInPlace d p (Disable at m) → (IsPart d p m → ⊥) → DisablesWrongly d at
+  also_other : {p q m : ℕ} {at : Place} → HasInPlace d p (Disable at m) → q ≢ p → IsPart d q m → DisablesWrongly d at
 
--- an import is called inside an expression of a statement that a process meets, or of a net
+-- an import is called inside an expression of a statement that a process has in place, or of a net
 pub data CallsHostInside (d : Flat) : Place → Type 0 where
-  inside_statement : {p f i : ℕ} {marks : List ℕ} {x : Statement} {e : Expr} →
-      Meets d p marks x → Contains (own_expressions x) e → Contains (calls_in e) f → IsImportNumber d f i → CallsHostInside d (place_of_statement x)
+  inside_statement : {p f i : ℕ} {x : Statement} {e : Expr} →
+      HasInPlace d p x → Contains (own_expressions x) e → Contains (calls_in e) f → IsImportNumber d f i → CallsHostInside d (place_of_statement x)
   inside_net : {f i : ℕ} {net : FlatNet} {e : Expr} →
       Contains d.nets net → net.value ≡ Some e → Contains (calls_in e) f → IsImportNumber d f i → CallsHostInside d net.place
 

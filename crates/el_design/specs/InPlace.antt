@@ -1,7 +1,28 @@
 -- Which statements stand in which: in the text, or in place, with the body of each enabled task at its enable. All of it is this project's own.
 use Rattle.std.specs.Prelude.{◌≡◌, ℕ, List, [], ◌∷◌, Some, None, Contains, slice_get}
 use Rattle.xt_base.specs.declared.refusals.Place.{Place}
+use Rattle.el_design.specs.Texts.{texts}
 use Rattle.el_design.specs.Plain.{Expr, Lvalue, Statement, Seq, Block, If, Case, Arm, For, While, Repeat, Forever, Enable, FlatTask, FlatProc, FlatFunc, Flat}
+
+-- A statement stands in place in another: in its text, or in the body of a task that this text enables, and so on.
+pub data InPlace (tasks : List FlatTask) (x : Statement) : Statement → Type 0 where
+  in_text : {s : Statement} → Contains (texts s) x → InPlace tasks x s
+  in_body : {s : Statement} {at : Place} {t : ℕ} {ins : List Expr} {outs : List Lvalue} {task : FlatTask} →
+      Contains (texts s) (Enable at t ins outs) → slice_get tasks t ≡ Some task → InPlace tasks x task.body → InPlace tasks x s
+
+-- a process has a statement in place: its text holds it, or the text of a task that it reaches by enables
+pub record HasInPlace (d : Flat) (p : ℕ) (x : Statement) : Type 0 where
+  pub process : FlatProc
+  pub is : slice_get d.procs p ≡ Some process
+  pub there : InPlace d.tasks x process.body
+
+-- a block or task with this mark is part of a process in place
+pub data IsPart (d : Flat) (p m : ℕ) : Type 0 where
+  block_part : {at : Place} {body : Statement} → HasInPlace d p (Block at (Some m) body) → IsPart d p m
+  task_part : {at : Place} {t : ℕ} {ins : List Expr} {outs : List Lvalue} {task : FlatTask} →
+      HasInPlace d p (Enable at t ins outs) → slice_get d.tasks t ≡ Some task → task.mark ≡ m → IsPart d p m
+
+-- ---- with the marks that are open there, which walks of loops need
 
 -- In a statement, with these marks open round it, stands another, with those marks open round that. The tasks are those whose bodies are taken in.
 pub data Stands (tasks : List FlatTask) : List ℕ → Statement → List ℕ → Statement → Type 0 where
@@ -37,7 +58,7 @@ pub data Stands (tasks : List FlatTask) : List ℕ → Statement → List ℕ �
 abbrev pub Holds : Statement → Statement → Type 0
 Holds s x = (o : List ℕ) × Stands [] [] s o x
 
--- a process meets a statement in place, with these marks open
+-- a process meets a statement in place, with these marks open round it
 pub record Meets (d : Flat) (p : ℕ) (marks : List ℕ) (x : Statement) : Type 0 where
   pub process : FlatProc
   pub is : slice_get d.procs p ≡ Some process
@@ -47,9 +68,3 @@ pub record Meets (d : Flat) (p : ℕ) (marks : List ℕ) (x : Statement) : Type 
 pub data LoopAt (d : Flat) : List ℕ → Statement → Type 0 where
   loop_of_process : {p : ℕ} {marks : List ℕ} {x : Statement} → Meets d p marks x → LoopAt d marks x
   loop_of_function : {g : FlatFunc} {marks : List ℕ} {x : Statement} → Contains d.funcs g → Stands [] [] g.body marks x → LoopAt d marks x
-
--- a block or task with this mark is part of a process in place
-pub data IsPart (d : Flat) (p m : ℕ) : Type 0 where
-  block_part : {marks : List ℕ} {at : Place} {body : Statement} → Meets d p marks (Block at (Some m) body) → IsPart d p m
-  task_part : {marks : List ℕ} {at : Place} {t : ℕ} {ins : List Expr} {outs : List Lvalue} {task : FlatTask} →
-      Meets d p marks (Enable at t ins outs) → slice_get d.tasks t ≡ Some task → task.mark ≡ m → IsPart d p m

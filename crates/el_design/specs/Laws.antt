@@ -4,13 +4,18 @@ use Rattle.std.specs.List.{list_any}
 use Rattle.xt_bits.specs.Word.{Word}
 use Rattle.xt_bits.specs.Stimulus.{Stimulus}
 use Rattle.xt_bits.specs.Trace.{Trace}
-use Rattle.el_design.specs.Plain.{Statement, Null, Skip, Seq, Block, Arm, Forever, FlatProc, Flat}
-use Rattle.el_design.specs.Value.{Scene}
+use Rattle.el_design.specs.Plain.{Expr, Statement, Null, Skip, Seq, Block, Arm, Forever, FlatProc, Flat}
+use Rattle.el_design.specs.Store.{Store}
+use Rattle.el_design.specs.Value.{Scene, value}
+use Rattle.el_design.specs.Function.{body_store}
+use Rattle.el_design.specs.Sound.{width}
+use Rattle.el_design.specs.Heights.{stack_height}
+use Rattle.el_design.specs.Fits.{IsWordOf, FitsStore, FitsScene, IsWellMade, IsSoundText, FitsConfig}
 use Rattle.el_design.specs.Stack.{Work, Do, quiet_step, IsStill, settle, is_waiting, is_ended}
 use Rattle.el_design.specs.Act.{Process, act}
 pub use Rattle.el_design.specs.Queue.{is_empty}
-use Rattle.el_design.specs.Queue.{Config, has_value, is_stuck, can_run, Event, Run, Follow, Update, ready, IsStarved, IsAtRest}
-use Rattle.el_design.specs.Run.{IsStimulus, Starts, Continues, Takes, Any, Runs}
+use Rattle.el_design.specs.Queue.{Config, has_value, is_stuck, can_run, Event, Run, Follow, Update, take, ready, IsStarved, IsAtRest}
+use Rattle.el_design.specs.Run.{IsRow, IsStimulus, Starts, Continues, Takes, Any, Runs}
 use Rattle.el_design.specs.Sizes.{CountsTurns, CountsStops, u_of, s_of, nets_size}
 use Rattle.el_design.specs.Rules.{most_turns}
 
@@ -133,3 +138,31 @@ EveryOrder d = (x : Stimulus) (plays others : List (List Event)) (trace other : 
 -- there is a run for each stimulus that fits
 abbrev pub EveryStimulusRuns : Flat → Type 0
 EveryStimulusRuns d = (x : Stimulus) → IsStimulus d x → (plays : List (List Event)) × ((trace : Trace) × Runs d x plays trace)
+
+-- ---- what fits a sound design goes on to fit it
+
+-- in what fits, each well made expression has a word of its node's width
+abbrev pub ValuesFit : Flat → Type 0
+ValuesFit d = (s : Scene) (e : Expr) → FitsScene d s → IsWellMade d e → IsWordOf (width e) (value d s e)
+
+-- a sound statement of a function's body leaves a store that fits
+abbrev pub BodiesFit : Flat → Type 0
+BodiesFit d = (call : ℕ → List Word → Word) (s : Statement) (store : Store) → IsSoundText d s → FitsStore d store → FitsStore d (body_store d call s store)
+
+-- the start edge begins in a state that fits
+abbrev pub StartFits : Flat → Type 0
+StartFits d = (x : Stimulus) (row : List Word) (c : Config) → IsStimulus d x → IsRow d row → Starts d x row c → FitsConfig d c
+
+-- and so does a further edge, after one that ended so
+abbrev pub NextEdgeFits : Flat → Type 0
+NextEdgeFits d = (last : Config) (row : List Word) (c : Config) → FitsConfig d last → IsRow d row → Continues d last row c → FitsConfig d c
+
+-- each event leads from a state that fits to one that does
+abbrev pub EventsFit : Flat → Type 0
+EventsFit d = (c : Config) (e : Event) (next : Config) → FitsConfig d c → take d c e ≡ Some next → FitsConfig d next
+
+-- in each edge of each run no stack has more pieces of work than its process's statement in place may put on it
+abbrev pub StacksStayLow : Flat → Type 0
+StacksStayLow d =
+    (x : Stimulus) (rows : List (List Word)) (begin end : Config) (es : List Event) → EdgeBegins d x rows begin → Takes d Any 0 begin es end →
+    (i : ℕ) (process : FlatProc) (p : Process) → slice_get d.procs i ≡ Some process → slice_get end.procs i ≡ Some p → length p.stack ≤ stack_height d process

@@ -11,6 +11,7 @@ pub mod Alone
 pub mod Ticks
 pub mod Run
 pub mod Names
+pub mod Texts
 pub mod InPlace
 pub mod Turns
 pub mod Walk
@@ -20,7 +21,15 @@ pub mod Purity
 pub mod Calls
 pub mod Rules
 pub mod Sound
+pub mod Fits
+pub mod Heights
 pub mod Checked
 pub mod Places
 pub mod Bodies
 pub mod Laws
+pub mod RunLaws
+pub mod CallLaws
+pub mod Witnesses
+pub mod Progression
+pub mod CountedLoops
+pub mod Exits

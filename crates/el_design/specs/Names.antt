@@ -11,7 +11,7 @@ abbrev mutual
   nodes_of (NetValue s n) = NetValue s n ∷ []
   nodes_of (Variable s v) = Variable s v ∷ []
   nodes_of (MemoryWord s v i) = MemoryWord s v i ∷ nodes_of i
-  nodes_of (Select s e r) = Select s e r ∷ nodes_of e ++ range_nodes r
+  nodes_of (Select s e r lsb) = Select s e r lsb ∷ nodes_of e ++ range_nodes r
   nodes_of (Unary s op e) = Unary s op e ∷ nodes_of e
   nodes_of (Binary s op a b) = Binary s op a b ∷ nodes_of a ++ nodes_of b
   nodes_of (Choice s c a b) = Choice s c a b ∷ nodes_of c ++ nodes_of a ++ nodes_of b

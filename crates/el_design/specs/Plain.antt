@@ -14,13 +14,13 @@ pub record Shape : Type 0 where
   pub signed : Bool
 
 mutual
-  -- an expression (IEEE 1364-2005, clause 5); things are named by their numbers
+  -- an expression (IEEE 1364-2005, clause 5); things are named by their numbers. A `Select` ends with the number of the lowest bit of what it is taken of, as declared.
   pub data Expr : Type 0 where
     Number : Shape → Word → Expr
     NetValue : Shape → ℕ → Expr
     Variable : Shape → ℕ → Expr
     MemoryWord : Shape → ℕ → Expr → Expr
-    Select : Shape → Expr → Range → Expr
+    Select : Shape → Expr → Range → ℕ → Expr
     Unary : Shape → UnOp → Expr → Expr
     Binary : Shape → BinOp → Expr → Expr → Expr
     Choice : Shape → Expr → Expr → Expr → Expr

@@ -1,7 +1,6 @@
 -- What a function's body may do, and which of its variables are surely assigned (IEEE 1364-2005, 10.4.4; the rest is this project's own).
 use Rattle.std.specs.Prelude.{ℕ, ◌&&◌, ◌||◌, not, Bool, true, false, List, [], ◌∷◌, ◌++◌, flat_map, filter, length, nat_le, ◌==◌, if◌then◌else◌}
 use Rattle.std.specs.List.{list_all, list_any}
-use Rattle.xt_base.specs.declared.refusals.Place.{Place}
 use Rattle.el_design.specs.Plain.{Expr, Statement, Null, Skip, Seq, Block, Assign, If, Case, Arm, For, While, Repeat, Forever, Wait, Enable, Disable, Host, FlatFunc, Flat}
 use Rattle.el_design.specs.Names.{variables_in, nets_in, calls_in, target_indexes, target_variables, whole_variables, own_targets, own_expressions, labels_in, listed}
 
@@ -56,35 +55,35 @@ assigned_after before (Host at f ins result outs) = before ++ flat_map whole_var
 abbrev pub is_early : List ℕ → List ℕ → Expr → Bool
 is_early watched before e = list_any (λ v. contains_number watched v && not (contains_number before v)) (variables_in e)
 
-abbrev pub early_at : List ℕ → List ℕ → Place → List Expr → List Place
-early_at watched before at es = if list_any (is_early watched before) es then at ∷ [] else []
+abbrev pub are_early : List ℕ → List ℕ → List Expr → Bool
+are_early watched before es = list_any (is_early watched before) es
 
--- the places of the statements that read a watched variable before it is surely assigned
-abbrev pub early_reads : List ℕ → List ℕ → Statement → List Place
-early_reads watched before Null = []
-early_reads watched before Skip = []
-early_reads watched before (Seq a b) = early_reads watched before a ++ early_reads watched (assigned_after before a) b
-early_reads watched before (Block at mark body) = early_reads watched before body
-early_reads watched before (Assign at to e held) = early_at watched before at (target_indexes to ++ e ∷ [])
-early_reads watched before (If at test a b) = early_at watched before at (test ∷ []) ++ early_reads watched before a ++ early_reads watched before b
-early_reads watched before (Case at on arms) = early_at watched before at (on ∷ labels_in arms) ++ early_reads watched before arms
-early_reads watched before (Arm on labels body others) = early_reads watched before body ++ early_reads watched before others
-early_reads watched before (For at v first test next body) =
-    early_at watched before at (first ∷ [])
-    ++ early_at watched (before ++ v ∷ []) at (test ∷ [])
-    ++ early_at watched (assigned_after (before ++ v ∷ []) body) at (next ∷ [])
-    ++ early_reads watched (before ++ v ∷ []) body
-early_reads watched before (While at test body) = early_at watched before at (test ∷ []) ++ early_reads watched before body
-early_reads watched before (Repeat at count body) = early_at watched before at (count ∷ []) ++ early_reads watched before body
-early_reads watched before (Forever at body) = early_reads watched before body
-early_reads watched before (Wait at falling) = []
-early_reads watched before (Enable at t ins outs) = early_at watched before at (ins ++ flat_map target_indexes outs)
-early_reads watched before (Disable at m) = []
-early_reads watched before (Host at f ins result outs) = early_at watched before at (ins ++ flat_map target_indexes (listed result ++ outs))
+-- a statement reads a watched variable before it is surely assigned
+abbrev pub early_in : List ℕ → List ℕ → Statement → Bool
+early_in watched before Null = false
+early_in watched before Skip = false
+early_in watched before (Seq a b) = early_in watched before a || early_in watched (assigned_after before a) b
+early_in watched before (Block at mark body) = early_in watched before body
+early_in watched before (Assign at to e held) = are_early watched before (target_indexes to ++ e ∷ [])
+early_in watched before (If at test a b) = is_early watched before test || early_in watched before a || early_in watched before b
+early_in watched before (Case at on arms) = are_early watched before (on ∷ labels_in arms) || early_in watched before arms
+early_in watched before (Arm on labels body others) = early_in watched before body || early_in watched before others
+early_in watched before (For at v first test next body) =
+    is_early watched before first
+    || is_early watched (before ++ v ∷ []) test
+    || early_in watched (before ++ v ∷ []) body
+    || is_early watched (assigned_after (before ++ v ∷ []) body) next
+early_in watched before (While at test body) = is_early watched before test || early_in watched before body
+early_in watched before (Repeat at count body) = is_early watched before count || early_in watched before body
+early_in watched before (Forever at body) = early_in watched before body
+early_in watched before (Wait at falling) = false
+early_in watched before (Enable at t ins outs) = are_early watched before (ins ++ flat_map target_indexes outs)
+early_in watched before (Disable at m) = false
+early_in watched before (Host at f ins result outs) = are_early watched before (ins ++ flat_map target_indexes (listed result ++ outs))
 
--- those of a function's body: its formals are assigned at the call, its locals and its result are watched
-abbrev pub function_early_reads : FlatFunc → List Place
-function_early_reads f = early_reads (f.locals ++ f.result ∷ []) f.ins f.body
+-- a local or the result of a function is read before it is surely assigned; the formals are assigned at the call
+abbrev pub reads_early : FlatFunc → Bool
+reads_early f = early_in (f.locals ++ f.result ∷ []) f.ins f.body
 
 -- the result is left without a sure assignment
 abbrev pub leaves_result : FlatFunc → Bool

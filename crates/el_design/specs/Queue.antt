@@ -8,7 +8,7 @@ use Rattle.el_design.specs.Store.{Store, Write, put_all}
 use Rattle.el_design.specs.Value.{Scene, value}
 use Rattle.el_design.specs.Function.{call_of}
 use Rattle.el_design.specs.Stack.{Work, Do, End, Await}
-use Rattle.el_design.specs.Act.{Process, act}
+use Rattle.el_design.specs.Act.{Process, Did, Acted, act}
 use Rattle.xt_bits.specs.Stimulus.{Reply}
 
 -- the number of the edge, the row on the input pins, the variables, the nets' values, and the processes
@@ -117,6 +117,21 @@ abbrev pub take : Flat → Config → Event → Option Config
 take d c (Run i) = take_run d c i (slice_get c.procs i)
 take d c (Follow n) = take_net d c n (slice_get d.nets n)
 take d c (Update i) = if is_quiet d c then take_update c i (slice_get c.procs i) else None
+
+-- What an event tells: of a process's, its number, what it did and at which line; of a net's, the net's number; of an update, its process's number.
+pub data Telling : Type 0 where
+  OfProcess : ℕ → Did → ℕ → Telling
+  OfNet : ℕ → Telling
+  OfUpdate : ℕ → Telling
+
+abbrev pub told_by : ℕ → Option Acted → Option Telling
+told_by i acted = option_map (λ a. OfProcess i a.did a.at.line) acted
+
+-- what an event that may be taken tells; the line is that of the statement to which it belongs
+abbrev pub told : Flat → Config → Event → Option Telling
+told d c (Run i) = elim (slice_get c.procs i) [ None ↦ None | Some p ↦ told_by i (act d (scene d c) p) ]
+told d c (Follow n) = Some (OfNet n)
+told d c (Update i) = Some (OfUpdate i)
 
 -- the events that may be taken, in the order of the pick
 abbrev pub ready : Flat → Config → List Event

@@ -1,11 +1,12 @@
--- The rules that a flat design keeps, each with the place of a break, and the first break. All of it is this project's own.
-use Rattle.std.specs.Prelude.{◌≡◌, ◌≢◌, ◌⊎◌, ◌+◌, ◌*◌, ◌<◌, ◌≤◌, ℕ, suc, true, List, [], Some, Contains, map, sum, length, slice_get}
+-- The rules that a flat design keeps, each with the place of a break. All of it is this project's own.
+use Rattle.std.specs.Prelude.{◌≡◌, ◌≢◌, ◌+◌, ◌*◌, ◌<◌, ℕ, suc, true, List, [], Some, Contains, map, sum, length, slice_get}
 use Rattle.xt_base.specs.declared.refusals.Place.{Place}
+use Rattle.xt_base.specs.declared.refusals.Refusal.{Refusal}
 use Rattle.el_design.specs.declared.designs.Var.{Var}
 use Rattle.el_design.specs.Plain.{Expr, Statement, FlatNet, FlatProc, Flat}
 use Rattle.el_design.specs.Names.{calls_in, place_of_statement}
 use Rattle.el_design.specs.InPlace.{LoopAt}
-use Rattle.el_design.specs.Turns.{HasTurns, IsEndlessFor, IsConstantLoop, body_of}
+use Rattle.el_design.specs.Turns.{HasBound, HasTurns, IsEndlessFor, body_of}
 use Rattle.el_design.specs.Walk.{HasWalk}
 use Rattle.el_design.specs.Touches.{WritesBlocking, WritesNonblocking, Writes, Reads, ReadsNet, Reaches, DependsOn}
 use Rattle.el_design.specs.Sizes.{once, CountsTurns, CountsStops, u_of, s_of, nets_size}
@@ -48,7 +49,7 @@ pub data NestsTooDeep (d : Flat) : Place → Type 0 where
 -- a loop that isn't of constant bound has a walk from its body's start to its end without a clock wait; an `always` is such a loop
 pub data SpinsAt (d : Flat) : Place → Type 0 where
   loop_spins : {marks : List ℕ} {x body : Statement} →
-      LoopAt d marks x → body_of x ≡ Some body → (IsConstantLoop d x → ⊥) → HasWalk d marks body → SpinsAt d (place_of_statement x)
+      LoopAt d marks x → body_of x ≡ Some body → (HasBound d x → ⊥) → HasWalk d marks body → SpinsAt d (place_of_statement x)
   always_spins : {process : FlatProc} →
       Contains d.procs process → process.always ≡ true → HasWalk d [] process.body → SpinsAt d process.place
 
@@ -109,22 +110,13 @@ pub data Breaks (d : Flat) : ℕ → ℕ → Place → Type 0 where
   across : {at : Place} → ReadAcross d at → Breaks d 14 72 at
   nets_circle : {at : Place} → NetsInCircle d at → Breaks d 15 73 at
 
--- one place stands before another: by instance, then by stretch of the text and line, which never fall along the text
-abbrev pub IsBefore : Place → Place → Type 0
-IsBefore a b =
-    (a.instance < b.instance)
-    ⊎ ((a.instance ≡ b.instance) × (a.file < b.file))
-    ⊎ ((a.instance ≡ b.instance) × (a.file ≡ b.file) × (a.line < b.line))
+-- a break of a pass, as it is named: the order of breaks is that of all passes
+abbrev pub IsBroken : Flat → ℕ → Refusal → Type 0
+IsBroken d pass r = Breaks d pass r.rule.0 r.place
 
 -- no rule of an earlier pass is broken
 abbrev pub IsCleanBefore : Flat → ℕ → Type 0
 IsCleanBefore d pass = (other rule : ℕ) (at : Place) → other < pass → Breaks d other rule at → ⊥
-
--- the break that is named: of the first pass that finds one, the first by place and then by number
-pub record IsFirst (d : Flat) (pass rule : ℕ) (at : Place) : Type 0 where
-  pub broken : Breaks d pass rule at
-  pub no_earlier : IsCleanBefore d pass
-  pub least : (r : ℕ) (b : Place) → Breaks d pass r b → IsBefore at b ⊎ ((at ≡ b) × (rule ≤ r))
 
 -- no rule of these passes is broken
 abbrev pub IsClean : Flat → Type 0

@@ -11,7 +11,7 @@ use Rattle.el_design.specs.declared.expressions.UnOp.{UnOp}
 use Rattle.el_design.specs.declared.expressions.UnOp.TheVariants as unary
 use Rattle.el_design.specs.declared.expressions.BinOp.{BinOp}
 use Rattle.el_design.specs.declared.expressions.BinOp.TheVariants as binary
-use Rattle.el_design.specs.Plain.{Expr, Number, NetValue, Variable, MemoryWord, Select, Unary, Binary, Choice, Concat, Copies, Sign, Resize, Call, Exprs, NoExpr, More, Range, Bit, Part, Up, Down, Lvalue, ToVariable, ToPart, ToWord, ToWordPart, Both, Nowhere, Statement, Skip, Seq, Block, Assign, If, Case, Arm, For, While, Repeat, Forever, Enable, Disable, Host, FlatNet, FlatTask, FlatFunc, FlatProc, Flat}
+use Rattle.el_design.specs.Plain.{Expr, Number, NetValue, Variable, MemoryWord, Select, Unary, Binary, Choice, Concat, Copies, Sign, Resize, Call, Exprs, NoExpr, More, Range, Bit, Part, Up, Down, Lvalue, ToVariable, ToPart, ToWord, ToWordPart, Both, Nowhere, Statement, Skip, Seq, Block, Assign, If, Case, Arm, For, While, Repeat, Forever, Wait, Enable, Disable, Host, FlatNet, FlatTask, FlatFunc, FlatProc, Flat}
 use Rattle.el_design.specs.Value.{shape_of, value}
 use Rattle.el_design.specs.Assign.{range_width}
 use Rattle.el_design.specs.Turns.{fixed}
@@ -49,13 +49,6 @@ pub record IsNet (d : Flat) (n w : ℕ) : Type 0 where
 abbrev pub widths_in : Exprs → List ℕ
 widths_in NoExpr = []
 widths_in (More e es) = width e ∷ widths_in es
-
--- a name, of which bits can be selected
-abbrev pub is_name : Expr → Bool
-is_name (NetValue s n) = true
-is_name (Variable s v) = true
-is_name (MemoryWord s v i) = true
-is_name e = false
 
 -- the bounds of a part, highest first, each below 65,536
 abbrev pub IsRange : Range → Type 0
@@ -110,7 +103,7 @@ Fits d (Number s b) = (b.width ≡ s.width) × (b.value < 2 ^ b.width)
 Fits d (NetValue s n) = IsNet d n s.width
 Fits d (Variable s v) = IsPlainVariable d v s.width
 Fits d (MemoryWord s v i) = IsMemory d v s.width
-Fits d (Select s e r) = (is_name e ≡ true) × IsRange r × (range_width r ≡ s.width)
+Fits d (Select s e r lsb) = IsRange r × (range_width r ≡ s.width)
 Fits d (Unary s op e) = FitsUnary op s.width (width e)
 Fits d (Binary s op a b) = FitsBinary op s.width (width a) (width b) × DividesWell d op b
 Fits d (Choice s c a b) = (width a ≡ s.width) × (width b ≡ s.width)
@@ -131,7 +124,7 @@ abbrev mutual
   depth (NetValue s n) = 1
   depth (Variable s v) = 1
   depth (MemoryWord s v i) = suc (depth i)
-  depth (Select s e r) = suc (max (depth e) (range_depth r))
+  depth (Select s e r lsb) = suc (max (depth e) (range_depth r))
   depth (Unary s op e) = suc (depth e)
   depth (Binary s op a b) = suc (max (depth a) (depth b))
   depth (Choice s c a b) = suc (max (depth c) (max (depth a) (depth b)))
@@ -274,6 +267,8 @@ FitsStatement d (Assign at to e held) = (w : ℕ) × IsTarget d to w × IsWidth 
 FitsStatement d (Case at on arms) = All (λ l. width l ≡ width on) (labels_in arms) × ChooseBy on arms
 FitsStatement d (For at v first test next body) = (w : ℕ) × IsPlainVariable d v w × (w ≤ width first) × (w ≤ width next)
 FitsStatement d (Enable at t ins outs) = FitsTask d ins (slice_get d.tasks t)
+-- a wait is on the rising edge of the clock
+FitsStatement d (Wait at falling) = falling ≡ false
 FitsStatement d (Disable at m) = Contains (all_marks d) m
 FitsStatement d (Host at f ins result outs) = FitsImport ins (slice_get d.imports f) × IfSome result (λ t. (w : ℕ) × IsTarget d t w × IsWidth w)
 FitsStatement d x = Unit {0}

@@ -2,7 +2,7 @@
 use Rattle.std.specs.Prelude.{◌≡◌, ℕ, true, List, [], ◌++◌, Some, Contains, flat_map, slice_get}
 use Rattle.el_design.specs.Plain.{Expr, Statement, Assign, FlatNet, Flat}
 use Rattle.el_design.specs.Names.{variables_in, nets_in, own_targets, own_expressions, target_variables}
-use Rattle.el_design.specs.InPlace.{Meets}
+use Rattle.el_design.specs.InPlace.{HasInPlace}
 use Rattle.el_design.specs.Turns.{formals_in, outputs_in}
 
 -- the variables that a statement itself writes by blocking assignment: results and outputs, input formals at the enable and output arguments at the return are written so
@@ -17,10 +17,10 @@ nonblocking_writes x = []
 
 -- a process writes a variable by blocking assignment, in place
 pub data WritesBlocking (d : Flat) (p v : ℕ) : Type 0 where
-  writes_blocking : {open_marks : List ℕ} {x : Statement} → Meets d p open_marks x → Contains (blocking_writes d x) v → WritesBlocking d p v
+  writes_blocking : {x : Statement} → HasInPlace d p x → Contains (blocking_writes d x) v → WritesBlocking d p v
 
 pub data WritesNonblocking (d : Flat) (p v : ℕ) : Type 0 where
-  writes_nonblocking : {open_marks : List ℕ} {x : Statement} → Meets d p open_marks x → Contains (nonblocking_writes x) v → WritesNonblocking d p v
+  writes_nonblocking : {x : Statement} → HasInPlace d p x → Contains (nonblocking_writes x) v → WritesNonblocking d p v
 
 pub data Writes (d : Flat) (p v : ℕ) : Type 0 where
   by_blocking : WritesBlocking d p v → Writes d p v
@@ -32,10 +32,10 @@ read_by d x = flat_map variables_in (own_expressions x) ++ outputs_in d x
 
 -- a process reads a variable in place. A function's formals and locals count for nobody.
 pub data Reads (d : Flat) (p v : ℕ) : Type 0 where
-  reads : {open_marks : List ℕ} {x : Statement} → Meets d p open_marks x → Contains (read_by d x) v → Reads d p v
+  reads : {x : Statement} → HasInPlace d p x → Contains (read_by d x) v → Reads d p v
 
 pub data ReadsNet (d : Flat) (p n : ℕ) : Type 0 where
-  reads_net : {open_marks : List ℕ} {x : Statement} → Meets d p open_marks x → Contains (flat_map nets_in (own_expressions x)) n → ReadsNet d p n
+  reads_net : {x : Statement} → HasInPlace d p x → Contains (flat_map nets_in (own_expressions x)) n → ReadsNet d p n
 
 -- a net's expression is this
 pub record NetIs (d : Flat) (n : ℕ) (e : Expr) : Type 0 where

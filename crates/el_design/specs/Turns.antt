@@ -1,15 +1,15 @@
 -- Loops whose number of turns stands in the text. All of it is this project's own.
-use Rattle.std.specs.Prelude.{◌⊎◌, Option, Some, None, ◌≡◌, ◌<◌, ◌==◌, ◌&&◌, ℕ, zero, suc, Bool, true, false, List, [], ◌++◌, Contains, flat_map, slice_get, unwrap_or, option_map}
+use Rattle.std.specs.Prelude.{Option, Some, None, ◌≡◌, ◌<◌, ◌==◌, ◌&&◌, ℕ, zero, suc, Bool, true, false, nat_le, List, [], ◌++◌, Contains, flat_map, slice_get, unwrap_or, option_map}
 use Rattle.xt_base.specs.declared.refusals.Place.{Place}
 use Rattle.el_design.specs.declared.expressions.BinOp.{BinOp}
 use Rattle.el_design.specs.declared.expressions.BinOp.TheVariants as binary
-use Rattle.el_design.specs.Plain.{Expr, Variable, Binary, Resize, ToVariable, Statement, For, While, Repeat, Forever, Enable, Flat}
+use Rattle.el_design.specs.Plain.{Shape, Expr, Variable, Binary, Resize, ToVariable, Statement, For, While, Repeat, Forever, Enable, Flat}
 use Rattle.el_design.specs.Store.{Store, empty_store, put_all}
-use Rattle.el_design.specs.Value.{Scene, value, is_up}
+use Rattle.el_design.specs.Value.{Scene, shape_of, value, is_up}
 use Rattle.el_design.specs.Assign.{writes_of, count_of}
 use Rattle.el_design.specs.Function.{call_of}
 use Rattle.el_design.specs.Names.{is_constant, own_targets, target_variables}
-use Rattle.el_design.specs.InPlace.{Stands}
+use Rattle.el_design.specs.InPlace.{InPlace}
 
 -- what constants are evaluated in: they name nothing
 abbrev pub fixed : Flat → Scene
@@ -21,10 +21,14 @@ holds d e = is_up (value d (fixed d) e)
 
 -- ---- `for (v = c; v REL c; v = v + c)`, or the same with `v - c`; each c is constant
 
--- an expression that is a variable; a name that is brought to another width is the name still
+-- bringing an expression to this width cuts no bit off
+abbrev pub is_kept : Shape → Expr → Bool
+is_kept s e = nat_le (shape_of e).width s.width
+
+-- an expression that is a variable; a name that is brought to a width which cuts nothing off is the name still
 abbrev pub is_variable : ℕ → Expr → Bool
 is_variable v (Variable s w) = w == v
-is_variable v (Resize s e) = is_variable v e
+is_variable v (Resize s e) = is_kept s e && is_variable v e
 is_variable v e = false
 
 -- REL is one of `< <= > >= !=`
@@ -48,7 +52,7 @@ is_test_of v e = false
 
 abbrev pub is_step_of : ℕ → Expr → Bool
 is_step_of v (Binary s op a b) = is_advance op && is_variable v a && is_constant b
-is_step_of v (Resize s e) = is_step_of v e
+is_step_of v (Resize s e) = is_kept s e && is_step_of v e
 is_step_of v e = false
 
 -- the input formals of the task of an enable
@@ -67,7 +71,7 @@ stored_by d x = formals_in d x ++ flat_map target_variables (own_targets x)
 
 -- no statement of a body in place stores to the variable
 abbrev pub IsFreeOf : Flat → ℕ → Statement → Type 0
-IsFreeOf d v body = (marks o : List ℕ) (x : Statement) → Stands d.tasks marks body o x → Contains (stored_by d x) v → ⊥
+IsFreeOf d v body = (x : Statement) → InPlace d.tasks x body → Contains (stored_by d x) v → ⊥
 
 -- the loop has this form
 pub record IsCounted (d : Flat) (v : ℕ) (first test next : Expr) (body : Statement) : Type 0 where
@@ -88,7 +92,13 @@ goes_on d v first test next n = is_up (value d (record (fixed d) { store = turne
 
 -- ---- constant loops
 
--- a loop of constant bound takes so many turns: the count of a `repeat`, none of a `while` of 0, those of a counted `for` until its test fails
+-- A loop of constant bound has one of these forms. Whether a `for` of that form ever ends isn't asked.
+pub data HasBound (d : Flat) : Statement → Type 0 where
+  bound_repeat : {at : Place} {count : Expr} {body : Statement} → is_constant count ≡ true → HasBound d (Repeat at count body)
+  bound_while : {at : Place} {test : Expr} {body : Statement} → is_constant test ≡ true → holds d test ≡ false → HasBound d (While at test body)
+  bound_for : {at : Place} {v : ℕ} {first test next : Expr} {body : Statement} → IsCounted d v first test next body → HasBound d (For at v first test next body)
+
+-- such a loop takes so many turns: the count of a `repeat`, none of a `while` of 0, those of a counted `for` until its test fails
 pub data HasTurns (d : Flat) : Statement → ℕ → Type 0 where
   of_repeat : {at : Place} {count : Expr} {body : Statement} →
       is_constant count ≡ true → HasTurns d (Repeat at count body) (count_of d (fixed d) count)
@@ -108,10 +118,6 @@ pub data IsEndlessFor (d : Flat) : Statement → Type 0 where
 pub data IsEndlessWhile (d : Flat) : Statement → Type 0 where
   endless_while : {at : Place} {test : Expr} {body : Statement} →
       is_constant test ≡ true → holds d test ≡ true → IsEndlessWhile d (While at test body)
-
--- a loop of constant bound; one that is endless has such a bound too
-abbrev pub IsConstantLoop : Flat → Statement → Type 0
-IsConstantLoop d s = ((n : ℕ) × HasTurns d s n) ⊎ IsEndlessFor d s
 
 -- the body of a loop
 abbrev pub body_of : Statement → Option Statement

@@ -1,5 +1,5 @@
 -- The value of an expression (IEEE 1364-2005, clause 5), whose lengths and signs stand in its nodes.
-use Rattle.std.specs.Prelude.{ℕ, zero, suc, ◌-◌, Bool, not, ◌&&◌, ◌||◌, if◌then◌else◌, List, [], ◌∷◌, fold, get_or, slice_get, ℤ, pos, ◌-ℤ◌, option_map, unwrap_or}
+use Rattle.std.specs.Prelude.{ℕ, zero, suc, ◌-◌, Bool, not, ◌&&◌, ◌||◌, if◌then◌else◌, List, [], ◌∷◌, fold, get_or, ℤ, pos, ◌-ℤ◌}
 use Rattle.xt_bits.specs.Word.{Word, word, truth, integer_of}
 use Rattle.xt_bits.specs.Operators.{add_of, sub_of, mul_of, neg_of, div_of, rem_of, eq_of, lt_of, and_of, or_of, xor_of, not_of, all_ones_of, any_of, odd_of, shl_of, shr_of, sar_of, concat_of, extend_of, select_of}
 use Rattle.el_design.specs.declared.expressions.UnOp.{UnOp}
@@ -7,7 +7,7 @@ use Rattle.el_design.specs.declared.expressions.UnOp.TheVariants as unary
 use Rattle.el_design.specs.declared.expressions.BinOp.{BinOp}
 use Rattle.el_design.specs.declared.expressions.BinOp.TheVariants as binary
 use Rattle.el_design.specs.Plain.{Shape, Expr, Number, NetValue, Variable, MemoryWord, Select, Unary, Binary, Choice, Concat, Copies, Sign, Resize, Call, Exprs, NoExpr, More, Range, Bit, Part, Up, Down, Flat}
-use Rattle.el_design.specs.Store.{Store, declared, stored, place_of}
+use Rattle.el_design.specs.Store.{Store, stored, place_of}
 
 -- what an expression is evaluated in: what a function of a number gives of its arguments, each net's value, and the store
 pub record Scene : Type 0 where
@@ -20,7 +20,7 @@ shape_of (Number s b) = s
 shape_of (NetValue s n) = s
 shape_of (Variable s v) = s
 shape_of (MemoryWord s v i) = s
-shape_of (Select s e r) = s
+shape_of (Select s e r lsb) = s
 shape_of (Unary s op e) = s
 shape_of (Binary s op a b) = s
 shape_of (Choice s c a b) = s
@@ -32,13 +32,6 @@ shape_of (Call s f es) = s
 
 abbrev pub is_signed : Expr → Bool
 is_signed e = (shape_of e).signed
-
--- the number of the lowest bit of what a select is taken of, as declared
-abbrev pub lsb_of : Flat → Expr → ℕ
-lsb_of d (NetValue s n) = unwrap_or (option_map (λ x. x.lsb) (slice_get d.nets n)) 0
-lsb_of d (Variable s v) = declared d v (λ x. x.lsb)
-lsb_of d (MemoryWord s v i) = declared d v (λ x. x.lsb)
-lsb_of d e = 0
 
 -- a test holds where the value isn't 0 (IEEE 1364-2005, 9.4)
 abbrev pub is_up : Word → Bool
@@ -98,7 +91,7 @@ abbrev mutual
   value d s (NetValue x n) = get_or s.nets n (word x.width 0)
   value d s (Variable x v) = stored s.store v 0 x.width
   value d s (MemoryWord x v i) = stored s.store v (place_of d v (integer_of (value d s i) (is_signed i))) x.width
-  value d s (Select x e r) = select_of (value d s e) (lowest d s r -ℤ pos (lsb_of d e)) x.width
+  value d s (Select x e r lsb) = select_of (value d s e) (lowest d s r -ℤ pos lsb) x.width
   value d s (Unary x op e) = unary_value op (value d s e)
   value d s (Binary x op a b) = binary_value op (is_signed a && is_signed b) x.signed (value d s a) (value d s b)
   value d s (Choice x c a b) = if is_up (value d s c) then value d s a else value d s b

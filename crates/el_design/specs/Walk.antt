@@ -7,7 +7,7 @@ use Rattle.el_design.specs.Assign.{arm_chosen}
 use Rattle.el_design.specs.Stack.{Work, Do, Return, Turns, quiet_step, below_mark}
 use Rattle.el_design.specs.Act.{turn}
 use Rattle.el_design.specs.Names.{is_constant, labels_in}
-use Rattle.el_design.specs.Turns.{fixed, holds, HasTurns, IsEndlessFor, IsEndlessWhile, IsConstantLoop, body_of}
+use Rattle.el_design.specs.Turns.{fixed, holds, HasBound, HasTurns, IsEndlessFor, IsEndlessWhile, body_of}
 
 -- the statements that a `case` may choose: the bodies of its arms, then the default
 abbrev pub choices : Statement → List Statement
@@ -30,7 +30,7 @@ MayTurn d s way = Unit {0}
 -- a loop whose number of turns no text tells: it takes any number of them, or none
 pub record IsFreeLoop (d : Flat) (s body : Statement) : Type 0 where
   pub body_is : body_of s ≡ Some body
-  pub no_bound : IsConstantLoop d s → ⊥
+  pub no_bound : HasBound d s → ⊥
   pub no_end : IsEndlessWhile d s → ⊥
 
 -- One step of a walk: a quiet step, or an event in which the store is forgotten. The stack is what lies above the place where the walk began;

@@ -66,8 +66,9 @@ pub enum Kind {
     Var(u32),
     /// The word of a memory at an index, which counts as declared in the source.
     Word(u32, Boxed<TExpr>),
-    /// Some bits of a name, or of a memory word.
-    Select(Boxed<TExpr>, Pick),
+    /// Some bits of an expression. The number is that of its lowest bit, as declared: with `reg [11:4] y`, bit 0 of
+    /// `y` is `y[4]`, and the number is 4.
+    Select(Boxed<TExpr>, Pick, u32),
     Unary(UnOp, Boxed<TExpr>),
     /// Division, remainder and comparison are signed where both operands are, and `>>>` where the node is.
     Binary(BinOp, Boxed<TExpr>, Boxed<TExpr>),

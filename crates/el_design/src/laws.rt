@@ -12,7 +12,8 @@ ghost use Rattle.el_design.specs.Act.{Process};
 ghost use Rattle.el_design.specs.Queue.{Config};
 ghost use Rattle.el_design.specs.Bodies.{BodyRuns, FunctionsEnd};
 ghost use Rattle.el_design.specs.Places.{WalksInPlace};
-ghost use Rattle.el_design.specs.Laws.{StacksSettle, ProcessesRun, EventsAreListed, EveryEdgeEnds, LoopsCount, SizesAreOne, AtMostUEvents, AtMostMaxEvents, EveryStimulusRuns};
+ghost use Rattle.el_design.specs.Sound.{IsSound};
+ghost use Rattle.el_design.specs.Laws.{ValuesFit, BodiesFit, StartFits, NextEdgeFits, EventsFit, StacksStayLow, EveryOrder, StacksSettle, ProcessesRun, EventsAreListed, EveryEdgeEnds, LoopsCount, SizesAreOne, AtMostUEvents, AtMostMaxEvents, EveryStimulusRuns};
 
 /// Steps that are no events lead from each stack to the one that `settle` gives. It is still, or has on top a `forever` of nothing.
 /// No such step changes what `settle` gives.
@@ -77,4 +78,33 @@ pub fn at_most_u_events()
 /// A checked design has a run for each stimulus that fits.
 pub fn every_stimulus_runs()
     ensures { (d : Flat) → (order : List ℕ) → IsChecked d order → EveryStimulusRuns d }
+{}
+
+/// All runs of a checked design under one stimulus have one trace, whatever events are taken.
+pub fn every_order()
+    ensures { (d : Flat) → (order : List ℕ) → IsChecked d order → EveryOrder d }
+{}
+
+/// In a sound design each well made expression has a word of its node's width, wherever the store and the values of the nets fit the design.
+pub fn values_fit()
+    ensures { (d : Flat) → IsSound d → ValuesFit d }
+{}
+
+/// In a sound design a statement of a function's body leaves a store that fits the design, where it finds one.
+pub fn bodies_fit()
+    ensures { (d : Flat) → IsSound d → BodiesFit d }
+{}
+
+/// The states of a run of a sound design fit it: each variable has all its words, each net its value, of their widths, and each stack is of sound statements.
+/// The start edge begins so, each event keeps it, and the next edge begins so again.
+pub fn states_fit()
+    ensures start { (d : Flat) → IsSound d → StartFits d }
+    ensures event { (d : Flat) → IsSound d → EventsFit d }
+    ensures next_edge { (d : Flat) → IsSound d → NextEdgeFits d }
+{}
+
+/// In a checked design no stack of a process has more pieces of work, in any run, than its statement puts on it by structure, with the bodies of
+/// tasks in place.
+pub fn stacks_stay_low()
+    ensures { (d : Flat) → (order : List ℕ) → IsChecked d order → StacksStayLow d }
 {}
