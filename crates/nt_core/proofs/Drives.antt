@@ -1,5 +1,5 @@
 -- Nodes that drive, one by one.
-use Rattle.std.proofs.Common.{◌≡◌, ℕ, zero, suc, ◌<◌, ◌≤◌, List, [], ◌∷◌, ◌++◌, length, take, drop, get_or, ◌+◌, map, length-append, arith, refl, subst, ap, ◌∙◌, sym, Some}
+use Rattle.std.proofs.Common.{◌≡◌, ℕ, zero, suc, ◌<◌, ◌≤◌, List, [], ◌∷◌, ◌++◌, length, take, drop, get_or, ◌+◌, map, arith, refl, subst, ap, ◌∙◌, sym, Some}
 use Rattle.std.specs.Prelude.{slice_get, slice_index, flat_map}
 use Rattle.std.proofs.lemmas.List.{length-map, map-append, length-take-le, take-append-drop}
 use Rattle.nt_core.specs.declared.netlist.Node.{Node}
@@ -51,9 +51,6 @@ pub drive_more : (nodes : List Node) (rest u v : List ℕ) (n : ℕ) → n ≡ l
 drive_more nodes rest u v n e h d =
     drive_parts nodes (take n rest) (drop n rest) u v (length-take-le n rest h ∙ e)
     (subst (λ l. Drive nodes l (u ++ v)) (sym (take-append-drop n rest)) d)
-
-pub drive_less : (nodes : List Node) (rest u v : List ℕ) → Drive nodes rest (u ++ v) → length u ≤ length rest
-drive_less nodes rest u v d = omega (arith, drive_length nodes rest (u ++ v) d, length-append u v)
 
 pub drive_rest : (nodes : List Node) (rest u v : List ℕ) (n : ℕ) → Drive nodes (take n rest) u → Drive nodes (drop n rest) v → Drive nodes rest (u ++ v)
 drive_rest nodes rest u v n p q = subst (λ l. Drive nodes l (u ++ v)) (take-append-drop n rest) (drive_join nodes (take n rest) (drop n rest) u v p q)

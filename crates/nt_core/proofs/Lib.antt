@@ -3,6 +3,7 @@ pub mod Copies
 pub mod Drives
 pub mod Ends
 mod Examples
+pub mod Equal
 pub mod FormValues
 pub mod Grown
 pub mod NodeLists

@@ -1,7 +1,8 @@
 -- Lists of nodes that grow.
-use Rattle.std.proofs.Common.{◌≡◌, ℕ, zero, suc, ◌<◌, ◌≤◌, List, [], ◌∷◌, ◌++◌, length, length-append, take, arith, refl, subst, sym, ap, ◌∙◌, ◌⊎◌, inl, inr, Some}
+use Rattle.std.proofs.Common.{◌≡◌, ℕ, zero, suc, ◌+◌, ◌<◌, ◌≤◌, List, [], ◌∷◌, ◌++◌, length, length-append, take, get_or, arith, refl, subst, sym, ap, ◌∙◌, ◌⊎◌, inl, inr, Some}
 use Rattle.std.specs.Prelude.{slice_get}
-use Rattle.std.proofs.lemmas.Option.{same_Some, none-some}
+use Rattle.std.proofs.lemmas.Bool.{cases_lt}
+use Rattle.std.proofs.lemmas.Option.{same_Some, none-some, slice_get_read}
 use Rattle.std.proofs.lemmas.List.{map-append, length-map, take-append-le}
 use Rattle.std.proofs.Math.Seq.{take-append_seam}
 use Rattle.nt_core.specs.declared.netlist.Node.{Node}
@@ -40,3 +41,27 @@ AreNodes-push ns m are room is = record {
     | inr p ↦ subst (λ k. IsNode (take i (widths (ns ++ m ∷ []))) k) p.1 (subst (λ ws. IsNode ws m) (sym (take-widths-seam ns m i p.0)) is)
   ];
 }
+
+-- ---- nodes, each against those before it
+
+widths-take : (nodes : List Node) (i : ℕ) → widths (take i nodes) ≡ take i (widths nodes)
+widths-take [] zero = refl
+widths-take [] (suc i) = refl
+widths-take (m ∷ ms) zero = refl
+widths-take (m ∷ ms) (suc i) = ap (λ ws. m.width ∷ ws) (widths-take ms i)
+
+-- each node below a place can follow those before it
+abbrev pub FollowTo : List Node → ℕ → Type 0
+FollowTo nodes i = (j : ℕ) (m : Node) → j < i → slice_get nodes j ≡ Some m → IsNode (take j (widths nodes)) m
+
+pub follows_at : (nodes : List Node) (i : ℕ) (m : Node) → i < length nodes → m ≡ get_or nodes i m → ((j : ℕ) (k : Node) → slice_get nodes j ≡ Some k → IsNode (take j (widths nodes)) k) → IsNode (widths (take i nodes)) m
+follows_at nodes i m within is each = subst (λ ws. IsNode ws m) (sym (widths-take nodes i)) (each i m (slice_get_read nodes (length nodes) i m refl within is))
+
+pub follow_more : (nodes : List Node) (i : ℕ) (m : Node) → i < length nodes → m ≡ get_or nodes i m → FollowTo nodes i → IsNode (widths (take i nodes)) m → FollowTo nodes (i + 1)
+follow_more nodes i m within is before here j k below at = elim (cases_lt j i) [
+  | inl less ↦ before j k less at
+  | inr more ↦
+      let same : i ≡ j = omega arith in
+      let node : m ≡ k = same_Some m k (sym (slice_get_read nodes (length nodes) i m refl within is) ∙ ap (slice_get nodes) same ∙ at) in
+      subst (λ n. IsNode (take j (widths nodes)) n) node (subst (λ a. IsNode (take a (widths nodes)) m) same (subst (λ ws. IsNode ws m) (widths-take nodes i) here))
+]

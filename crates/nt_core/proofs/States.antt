@@ -94,16 +94,22 @@ next_fits n vs s is size fits = record {
   memories = writes-widths n vs s.memories n.writes size is.shell.connected.writes fits.memories;
 }
 
+pub tick_fits : (n : Parts) (inputs : Inputs) (state : State) → IsNetlist n → SourcesFit n (record { inputs = inputs; state = state }) → IsState n (tick n inputs state)
+tick_fits n inputs state is fits =
+    next_fits n (tick_values n inputs state) state is (values-widths n (record { inputs = inputs; state = state }) fits is.nodes is.shell.connected.sources) fits.state
+
+-- registers and memories that were computed apart, each from the values
+pub tick_parts : (n : Parts) (inputs : Inputs) (state : State) (vs us : List Word) (nexts : List ℕ) (old : List (List Word)) (registers : List Word) (memories : List (List Word))
+    → vs ≡ tick_values n inputs state → us ≡ tick_values n inputs state → nexts ≡ n.nexts → old ≡ state.memories
+    → registers ≡ map (value_at vs) nexts → memories ≡ fold (written us) old n.writes → record { registers = registers; memories = memories } ≡ tick n inputs state
+tick_parts n inputs state vs us nexts old registers memories v u x o r m =
+    let values : List Word = tick_values n inputs state in
+    let next_registers : registers ≡ map (value_at values) n.nexts = r ∙ ap (λ l. map (value_at l) nexts) v ∙ ap (map (value_at values)) x in
+    let next_memories : memories ≡ fold (written values) state.memories n.writes = m ∙ ap (λ l. fold (written l) old n.writes) u ∙ ap (λ l. fold (written values) l n.writes) o in
+    cc
+
 -- ---- as answers of calls
 
 pub start_ok : {E : Type 0} (n : Parts) (r : Result State E) → IfOk r (λ s. s ≡ start n) → IfOk r (λ s. IsState n s)
 start_ok n (Ok s) e = subst (IsState n) (sym e) (start_fits n)
 start_ok n (Err x) e = tt
-
-pub tick_ok : {E : Type 0} (n : Parts) (inputs : Inputs) (state : State) (r : Result State E) → IsNetlist n → SourcesFit n (record { inputs = inputs; state = state })
-    → IfOk r (λ s. s ≡ tick n inputs state) → IfOk r (λ s. IsState n s)
-tick_ok n inputs state (Ok s) is fits e =
-    subst (IsState n) (sym e)
-    (next_fits n (tick_values n inputs state) state is
-    (values-widths n (record { inputs = inputs; state = state }) fits is.nodes is.shell.connected.sources) fits.state)
-tick_ok n inputs state (Err x) is fits e = tt

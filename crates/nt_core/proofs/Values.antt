@@ -2,7 +2,7 @@
 use Rattle.std.proofs.Common.{◌≡◌, ℕ, zero, suc, ◌<◌, List, [], ◌∷◌, ◌++◌, length, map, get_or, replicate, arith, refl, subst, sym, ap, ◌∙◌, Some, Bool, true, false}
 use Rattle.std.specs.Prelude.{slice_get, slice_index, fold, if◌then◌else◌}
 use Rattle.std.proofs.lemmas.Option.{same_Some, none-some}
-use Rattle.std.proofs.lemmas.List.{length-map, get_or-map, get_or_append_left, get_or_at, append_assoc, append-nil}
+use Rattle.std.proofs.lemmas.List.{length-map, get_or-map, get_or_append_left, append_assoc, append-nil}
 use Rattle.std.proofs.lemmas.List.Sums.{fold-append}
 use Rattle.xt_bits.specs.Word as bits
 use Rattle.xt_bits.specs.Word.{word}
@@ -16,7 +16,7 @@ use Rattle.nt_core.specs.Sources.{Sources}
 use Rattle.nt_core.specs.Forms.{form_width, HasOperands}
 use Rattle.nt_core.specs.Conditions.{HasSource}
 use Rattle.nt_core.specs.NodeValue.{value_at, value_of, values, node_value}
-use Rattle.nt_core.specs.Growth.{made, IsAdded, Grows}
+use Rattle.nt_core.specs.Growth.{Grows}
 use Rattle.nt_core.specs.Fitting.{value_widths, SourcesFit}
 
 -- ---- growth
@@ -50,16 +50,6 @@ node_value-append xs ys s a h =
 
 pub node_value-grows : (old new : List Node) → Grows old new → (s : Sources) (a : ℕ) → a < length old → node_value new s a ≡ node_value old s a
 node_value-grows old new g s a h = ap (λ ns. node_value ns s a) g.is ∙ node_value-append old g.more s a h
-
--- a node that is added has its form's value over the nodes before it
-pub added-value : (old : List Node) (op : Op) (new : List Node) (i : ℕ) → IsAdded old op new i → (s : Sources) → node_value new s i ≡ value_of s (values old s) op
-added-value old op new i is s =
-    ap (λ ns. node_value ns s i) is.nodes
-    ∙ ap (λ vs. get_or vs i (word 1 0)) (values-push old (made old op) s)
-    ∙ get_or_at (values old s) (value_of s (values old s) op) [] (word 1 0) i (length-values old s ∙ sym is.number)
-
-pub added-grows : (old : List Node) (op : Op) (new : List Node) (i : ℕ) → IsAdded old op new i → Grows old new
-added-grows old op new i is = record { more = made old op ∷ []; is = is.nodes }
 
 pub Grows-refl : (ns : List Node) → Grows ns ns
 Grows-refl ns = record { more = []; is = sym (append-nil ns) }

@@ -1,5 +1,5 @@
 -- Nodes that are driven, and writes to memories.
-use Rattle.std.proofs.Common.{◌≡◌, ℕ, zero, suc, ◌<◌, List, [], ◌∷◌, length, map, set, get_or, arith, refl, sym, ap, ◌∙◌, Bool, true, false, Some}
+use Rattle.std.proofs.Common.{◌≡◌, ℕ, zero, suc, ◌<◌, List, [], ◌∷◌, length, map, set, get_or, arith, refl, subst, sym, ap, ◌∙◌, Bool, true, false, Some}
 use Rattle.std.specs.Prelude.{slice_get, fold, if◌then◌else◌, All}
 use Rattle.std.proofs.lemmas.Option.{slice_get_within, slice_get-get_or}
 use Rattle.std.proofs.lemmas.List.{length-map, length-set, map-set, get_or-map}
@@ -10,7 +10,7 @@ use Rattle.nt_core.specs.declared.netlist.Memory.{Memory}
 use Rattle.nt_core.specs.declared.netlist.MemWrite.{MemWrite}
 use Rattle.nt_core.specs.Parts.{Parts}
 use Rattle.nt_core.specs.Forms.{widths}
-use Rattle.nt_core.specs.Conditions.{Drive, IsWrite}
+use Rattle.nt_core.specs.Conditions.{Drive, IsWrite, IsNetlist}
 use Rattle.nt_core.specs.NodeValue.{value_at}
 use Rattle.nt_core.specs.Tick.{written}
 
@@ -25,6 +25,10 @@ pub driven_below : (nodes : List Node) (drives wanted : List ℕ) → Drive node
 driven_below nodes drives wanted e k d h =
     let at = driven_at (widths nodes) drives wanted e k d h in
     omega (arith, slice_get_within (widths nodes) (get_or drives k d) at.0 at.1, length-map nodes (λ (m : Node). m.width))
+
+-- each write is one of the netlist's
+pub write_at : (n : Parts) (writes : List MemWrite) (i : ℕ) (d : MemWrite) → IsNetlist n → writes ≡ n.writes → i < length writes → IsWrite n (get_or writes i d)
+write_at n writes i d is same within = subst (λ l. All (IsWrite n) l) (sym same) is.shell.connected.writes i d within
 
 -- the nodes of a write are there
 pub record AreBelow (n : Parts) (w : MemWrite) : Type 0 where

@@ -1,19 +1,13 @@
 -- The run of a written design by its driver, and its trace. All of it is this project's own.
-use Rattle.std.specs.Prelude.{◌≡◌, ◌≢◌, ℕ, zero, suc, ◌+◌, List, [], ◌∷◌, map, length, All, Option, Some, None, option_map, option_and_then, if◌then◌else◌}
+use Rattle.std.specs.Prelude.{◌≡◌, ℕ, zero, suc, ◌+◌, List, [], ◌∷◌, map, Option, Some, None, option_map, option_and_then, if◌then◌else◌}
 use Rattle.xt_bits.specs.Word.{Word}
 use Rattle.nt_core.specs.Parts.{Parts}
 use Rattle.nt_core.specs.Sources.{State}
 use Rattle.nt_core.specs.Tick.{start, settled, tick_values, next}
 use Rattle.nt_core.specs.Ports.{edge_up, outputs}
 use Rattle.nt_core.specs.Driver.{Agent, Free, listen, halt, driven, pass}
-use Rattle.xt_bits.specs.Stimulus.{Reply, Stimulus, FitPins}
+use Rattle.xt_bits.specs.Stimulus.{Reply, Stimulus}
 use Rattle.xt_bits.specs.Trace.{Ending, Rested, Starved, Stalled, Seen, Trace}
-
--- a stimulus for a design: at least one row, each with a value for each input pin, and a list of replies for each process
-pub record IsStimulus (n : Parts) (x : Stimulus) : Type 0 where
-  pub some : x.rows ≢ []
-  pub rows : All (FitPins (map (λ i. i.width) n.inputs)) x.rows
-  pub replies : length x.replies ≡ n.processes
 
 -- a design in its run: what it holds, and its processes as the host sees them
 pub record Run : Type 0 where

@@ -1,15 +1,16 @@
 //! Whether a shell and nodes keep the conditions of a netlist.
-ghost use Rattle.std.specs.Prelude.{◌≡◌, ◌≢◌, ℕ, ◌+◌, ◌<◌, ◌≤◌, ◌↔◌, ◌++◌, ◌∷◌, [], List, map, flat_map, length, slice_get, slice_index, Some, IsSome, option_copied, All, AllPairs, IsTrue};
+ghost use Rattle.std.specs.Prelude.{◌≡◌, ◌≢◌, ℕ, ◌+◌, ◌<◌, ◌≤◌, ◌↔◌, ◌++◌, ◌∷◌, [], List, map, flat_map, length, slice_get, slice_index, take, Some, IsSome, option_copied, All, AllPairs, IsTrue};
 ghost use Rattle.std.specs.List.Sorted.{IsStrictlyIncreasing};
 ghost use Rattle.xt_bits.specs.Word.{IsKept};
 ghost use Rattle.xt_base.specs.Identifiers.{is_identifier};
 ghost use Rattle.nt_core.specs.Names.{is_pin_name};
-ghost use Rattle.nt_core.specs.Conditions.{AreWidths, IsFunction, IsPin, IsHost, AreHosts, IsMemory, HasSource, Drive, IsWrite, HasCounts, HasParts, HasPins, IsConnected, IsShell, host_port_widths, port_widths, host_of, reply_widths};
-ghost use Rattle.nt_core.specs.Forms.{IsWidth, widths};
+ghost use Rattle.nt_core.specs.Conditions.{AreWidths, IsFunction, IsPin, IsHost, AreHosts, IsMemory, HasSource, Drive, IsWrite, HasCounts, HasParts, HasPins, IsConnected, IsShell, AreNodes, host_port_widths, port_widths, host_of, reply_widths};
+ghost use Rattle.nt_core.specs.Forms.{IsWidth, IsNode, widths};
+ghost use Rattle.nt_core.specs.declared.netlist.Node.{Node};
 ghost use Rattle.nt_core.specs.Parts.{assembled};
 
-use crate::netlist::{Function, HostPins, MemWrite, Memory, Node, Op, Shell, Wire};
-use crate::operands::{is_node, is_width};
+use crate::netlist::{Function, HostPins, MemWrite, Memory, Netlist, Node, Op, Shell, Wire};
+use crate::operands::{can_follow, is_width};
 use xt_base::{Item, MAX_WIDTH, is_identifier};
 use xt_bits::Bits;
 
@@ -350,8 +351,8 @@ fn is_kept(start: &Bits) -> bool
 }
 
 impl Shell {
-    /// Whether this shell and these nodes keep all conditions of a netlist but those on the nodes alone: that there
-    /// are at most 4,294,967,295, and that each can follow those before it, which `can_follow` tells.
+    /// Whether this shell and these nodes keep all conditions of a netlist but those on the nodes alone, which
+    /// `are_nodes` tells.
     ///
     /// It compares the names of each pair of pins.
     pub fn fits(&self, nodes: &[Node]) -> bool
@@ -372,6 +373,48 @@ impl Shell {
             && has_pins(self, nodes)
             && is_connected(self, nodes)
     }
+
+    /// The netlist of this shell and these nodes.
+    pub fn with_nodes(self, nodes: Vec<Node>) -> Netlist
+        requires shell { IsShell (assembled self nodes.items) }
+        requires nodes { AreNodes nodes.items }
+        ensures { result ≡ assembled self nodes.items }
+    {
+        Netlist {
+            version: self.version,
+            processes: self.processes,
+            functions: self.functions,
+            inputs: self.inputs,
+            outputs: self.outputs,
+            hosts: self.hosts,
+            registers: self.registers,
+            memories: self.memories,
+            nodes,
+            drives: self.drives,
+            nexts: self.nexts,
+            writes: self.writes,
+        }
+    }
+}
+
+/// Whether these nodes keep the conditions on nodes alone: there are at most 4,294,967,295, and each can follow those
+/// before it.
+pub fn are_nodes(nodes: &[Node]) -> bool
+    ensures { IsTrue result ↔ AreNodes nodes.now }
+{
+    is_numbered(nodes.len()) && all_follow(nodes)
+}
+
+/// Whether each node can follow those before it.
+fn all_follow(nodes: &[Node]) -> bool
+    ensures { IsTrue result ↔ ((i : ℕ) (m : Node) → slice_get nodes.now i ≡ Some m → IsNode (take i (widths nodes.now)) m) }
+{
+    for i in 0..nodes.len() {
+        if !can_follow(&nodes[..i], &nodes[i]) {
+            return false;
+        }
+    }
+    true
 }
 
 /// Whether the version and the counts are in their ranges.

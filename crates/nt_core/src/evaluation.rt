@@ -1,12 +1,12 @@
 //! The meaning of a netlist, computed plainly: slow and obvious, for faster bodies to be compared with.
-ghost use Rattle.std.specs.Prelude.{◌≡◌, ◌↔◌, ℕ, ◌+◌, ◌-◌, ◌<◌, ◌≤◌, List, [], false, pos, if◌then◌else◌, get_or, slice_index, length, map, replicate, slice_set, All, IfOk, IsTrue};
+ghost use Rattle.std.specs.Prelude.{◌≡◌, ◌↔◌, ℕ, ◌+◌, ◌-◌, ◌<◌, ◌≤◌, List, [], false, pos, if◌then◌else◌, get_or, slice_index, length, map, replicate, slice_set, fold, All, IfOk, IsTrue};
 ghost use Rattle.xt_bits.specs.Word.{word, truth};
 ghost use Rattle.xt_bits.specs.Operators.{any_of, select_of};
 ghost use Rattle.nt_core.specs.Forms.{IsWidth, HasOperands, widths};
 ghost use Rattle.nt_core.specs.Sources.{silent};
 ghost use Rattle.nt_core.specs.Fitting.{value_widths, HasPinWidths, IsState, SourcesFit};
 ghost use Rattle.nt_core.specs.NodeValue.{value_at, value_of, copies_of};
-ghost use Rattle.nt_core.specs.Tick.{start, tick_values, written, next, tick};
+ghost use Rattle.nt_core.specs.Tick.{start, tick_values, written, tick};
 
 use crate::netlist::{MemWrite, Netlist, Op, Wire};
 use std::alloc::Global;
@@ -166,43 +166,29 @@ pub fn tick(
     ensures value { IfOk result (λ after. after ≡ tick netlist.now inputs.now state) }
     ensures fits { IfOk result (λ after. IsState netlist.now after) }
 {
-    let _kept = &netlist.version;
-    state_after(alloc, netlist, inputs, state)
-}
-
-fn state_after(
-    alloc: Global,
-    netlist: &Netlist,
-    inputs: &Inputs,
-    state: State,
-) -> Result<State, NoMemory>
-    requires { SourcesFit netlist.now (record { inputs = inputs.now; state = state }) }
-    ensures { IfOk result (λ after. after ≡ tick netlist.now inputs.now state) }
-{
     let values = evaluate(alloc, netlist, inputs, &state)?;
-    next_state(alloc, netlist, values.as_slice(), state)
-}
-
-/// The state after a tick in which the nodes have these values.
-fn next_state(
-    alloc: Global,
-    netlist: &Netlist,
-    values: &[Bits],
-    state: State,
-) -> Result<State, NoMemory>
-    requires values { length values.now ≡ length netlist.now.nodes }
-    requires memories { length state.memories ≡ length netlist.now.memories }
-    ensures { IfOk result (λ after. after ≡ next netlist.now values.now state) }
-{
-    let registers = values_at(alloc, values, netlist.nexts.as_slice())?;
-    let mut memories = state.memories;
-    for entry in netlist.writes.as_slice() {
-        write(&mut memories, values, entry);
-    }
+    let registers = values_at(alloc, values.as_slice(), netlist.nexts.as_slice())?;
+    let memories = memories_after(netlist, values.as_slice(), state.memories);
     Ok(State {
         registers,
         memories,
     })
+}
+
+/// The memories after the writes of a tick in which the nodes have these values.
+fn memories_after(
+    netlist: &Netlist,
+    values: &[Bits],
+    mut memories: Vec<Vec<Bits>>,
+) -> Vec<Vec<Bits>>
+    requires values { length values.now ≡ length netlist.now.nodes }
+    requires memories { length memories.items ≡ length netlist.now.memories }
+    ensures { map (λ v. v.items) result.items ≡ fold (written values.now) (map (λ v. v.items) memories.items) netlist.now.writes }
+{
+    for entry in netlist.writes.as_slice() {
+        write(&mut memories, values, entry);
+    }
+    memories
 }
 
 /// The values of these nodes.

@@ -123,7 +123,7 @@ pub struct Memory {
 }
 
 /// A node: a wire of the design with its form.
-#[derive(Clone, Copy, Debug, PartialEq, Eq)]
+#[derive(Clone, Copy, Debug, PartialEq, Eq, Hash)]
 pub struct Node {
     /// The width in bits.
     pub width: u32,
@@ -143,7 +143,7 @@ pub struct MemWrite {
 }
 
 /// The form of a node. A number without a name is an operand's node.
-#[derive(Clone, Copy, Debug, PartialEq, Eq)]
+#[derive(Clone, Copy, Debug, PartialEq, Eq, Hash)]
 pub enum Op {
     /// An input pin, by its place.
     Pin { pin: u32, width: u32 },

@@ -6,9 +6,9 @@ use Rattle.std.proofs.lemmas.List.{take_all, drop_all}
 use Rattle.std.proofs.lemmas.List.Sums.{fails_before_first}
 use Rattle.std.proofs.lemmas.List.Splits.{slice_split_first, slice_split_none}
 use Rattle.std.proofs.lemmas.Bool.{cases_lt}
-use Rattle.nt_core.specs.declared.netlist.Op.{Op}
+use Rattle.nt_core.specs.declared.netlist.Node.{Node}
 use Rattle.nt_read.specs.declared.sketch.Told.{Told}
-use Rattle.nt_read.specs.Sketch.{lines_in, line_of, after_line, is_node_line, told, form_told, forms_told}
+use Rattle.nt_read.specs.Sketch.{lines_in, line_of, after_line, is_node_line, told, node_told, nodes_told}
 
 feed : ℕ → Bool
 feed c = c == 10
@@ -34,25 +34,25 @@ pub told_end : (most : ℕ) (s : Told) (text : List ℕ) → length text ≡ 0 �
 told_end most s [] h = refl
 told_end most s (c ∷ cs) h = absurd (omega (arith, h))
 
-abbrev formed : ℕ → List (List ℕ) → List (List ℕ) → List Op
-formed most names lines = map (λ line. form_told most names (drop 7 line)) (filter is_node_line lines)
+abbrev of_lines : ℕ → List (List ℕ) → List (List ℕ) → List Node
+of_lines most names lines = map (λ line. node_told most names (drop 7 line)) (filter is_node_line lines)
 
-one_formed : (most : ℕ) (names : List (List ℕ)) (line : List ℕ) (lines : List (List ℕ)) → formed most names (line ∷ lines) ≡ cond (is_node_line line) (form_told most names (drop 7 line) ∷ []) [] ++ formed most names lines
-one_formed most names line lines = go (is_node_line line) refl
+one_more : (most : ℕ) (names : List (List ℕ)) (line : List ℕ) (lines : List (List ℕ)) → of_lines most names (line ∷ lines) ≡ cond (is_node_line line) (node_told most names (drop 7 line) ∷ []) [] ++ of_lines most names lines
+one_more most names line lines = go (is_node_line line) refl
   where
-    go : (b : Bool) → is_node_line line ≡ b → formed most names (line ∷ lines) ≡ cond b (form_told most names (drop 7 line) ∷ []) [] ++ formed most names lines
-    go true h = ap (λ b. map (λ l. form_told most names (drop 7 l)) (cond b (line ∷ filter is_node_line lines) (filter is_node_line lines))) h
-    go false h = ap (λ b. map (λ l. form_told most names (drop 7 l)) (cond b (line ∷ filter is_node_line lines) (filter is_node_line lines))) h
+    go : (b : Bool) → is_node_line line ≡ b → of_lines most names (line ∷ lines) ≡ cond b (node_told most names (drop 7 line) ∷ []) [] ++ of_lines most names lines
+    go true h = ap (λ b. map (λ l. node_told most names (drop 7 l)) (cond b (line ∷ filter is_node_line lines) (filter is_node_line lines))) h
+    go false h = ap (λ b. map (λ l. node_told most names (drop 7 l)) (cond b (line ∷ filter is_node_line lines) (filter is_node_line lines))) h
 
-pub forms_line : (most : ℕ) (names : List (List ℕ)) (text : List ℕ) → forms_told most names text ≡ cond (is_node_line (line_of text)) (form_told most names (drop 7 (line_of text)) ∷ []) [] ++ forms_told most names (after_line text)
-forms_line most names text = elim (two text) [
-  | inl more ↦ ap (formed most names) more ∙ one_formed most names (line_of text) (lines_in (after_line text))
-  | inr last ↦ ap (formed most names) last.0 ∙ one_formed most names (line_of text) [] ∙ ap (λ t. cond (is_node_line (line_of text)) (form_told most names (drop 7 (line_of text)) ∷ []) [] ++ forms_told most names t) (sym last.1)
+pub nodes_line : (most : ℕ) (names : List (List ℕ)) (text : List ℕ) → nodes_told most names text ≡ cond (is_node_line (line_of text)) (node_told most names (drop 7 (line_of text)) ∷ []) [] ++ nodes_told most names (after_line text)
+nodes_line most names text = elim (two text) [
+  | inl more ↦ ap (of_lines most names) more ∙ one_more most names (line_of text) (lines_in (after_line text))
+  | inr last ↦ ap (of_lines most names) last.0 ∙ one_more most names (line_of text) [] ∙ ap (λ t. cond (is_node_line (line_of text)) (node_told most names (drop 7 (line_of text)) ∷ []) [] ++ nodes_told most names t) (sym last.1)
 ]
 
-pub forms_end : (most : ℕ) (names : List (List ℕ)) (text : List ℕ) → length text ≡ 0 → forms_told most names text ≡ []
-forms_end most names [] h = refl
-forms_end most names (c ∷ cs) h = absurd (omega (arith, h))
+pub nodes_end : (most : ℕ) (names : List (List ℕ)) (text : List ℕ) → length text ≡ 0 → nodes_told most names text ≡ []
+nodes_end most names [] h = refl
+nodes_end most names (c ∷ cs) h = absurd (omega (arith, h))
 
 -- the rest is shorter than the text
 pub shorter : (text : List ℕ) → length text ≢ 0 → length (after_line text) < length text
@@ -66,10 +66,10 @@ told_on most s t whole rest first others before told_is first_is others_is =
     ∙ ap (λ u. fold (told most) u (lines_in (after_line rest))) (told_is ∙ ap (told most s) first_is)
     ∙ sym (told_line most s rest) ∙ before
 
-pub forms_on : (most : ℕ) (names : List (List ℕ)) (old new whole : List Op) (rest first others : List ℕ) → old ++ forms_told most names rest ≡ whole
-    → new ≡ old ++ cond (is_node_line first) (form_told most names (drop 7 first) ∷ []) [] → first ≡ line_of rest → others ≡ after_line rest → new ++ forms_told most names others ≡ whole
-forms_on most names old new whole rest first others before new_is first_is others_is =
-    ap (λ o. new ++ forms_told most names o) others_is
-    ∙ ap (λ n. n ++ forms_told most names (after_line rest)) (new_is ∙ ap (λ l. old ++ cond (is_node_line l) (form_told most names (drop 7 l) ∷ []) []) first_is)
-    ∙ append_assoc old _ (forms_told most names (after_line rest))
-    ∙ ap (λ x. old ++ x) (sym (forms_line most names rest)) ∙ before
+pub nodes_on : (most : ℕ) (names : List (List ℕ)) (old new whole : List Node) (rest first others : List ℕ) → old ++ nodes_told most names rest ≡ whole
+    → new ≡ old ++ cond (is_node_line first) (node_told most names (drop 7 first) ∷ []) [] → first ≡ line_of rest → others ≡ after_line rest → new ++ nodes_told most names others ≡ whole
+nodes_on most names old new whole rest first others before new_is first_is others_is =
+    ap (λ o. new ++ nodes_told most names o) others_is
+    ∙ ap (λ n. n ++ nodes_told most names (after_line rest)) (new_is ∙ ap (λ l. old ++ cond (is_node_line l) (node_told most names (drop 7 l) ∷ []) []) first_is)
+    ∙ append_assoc old _ (nodes_told most names (after_line rest))
+    ∙ ap (λ x. old ++ x) (sym (nodes_line most names rest)) ∙ before

@@ -1,12 +1,12 @@
 -- The parts that a netlist's text tells are the netlist's.
-use Rattle.std.proofs.Common.{◌≡◌, ℕ, ◌+◌, ◌^◌, ◌≤◌, ◌<◌, false, List, [], ◌∷◌, ◌++◌, length, map, flat_map, filter, fold, zip, cond, refl, sym, ap, ◌∙◌, subst, arith, append-nil, drop, codes, decimal}
+use Rattle.std.proofs.Common.{◌≡◌, ℕ, ◌^◌, ◌≤◌, ◌<◌, false, List, [], ◌∷◌, ◌++◌, length, map, flat_map, filter, fold, zip, cond, refl, sym, ap, ◌∙◌, subst, arith, append-nil, drop, codes, decimal}
 use Rattle.std.specs.List.{enumerate_from, AllByRecursion}
 use Rattle.std.proofs.lemmas.List.Sums.{fold-append}
 use Rattle.std.proofs.lemmas.List.Elements.{recursion_from_All}
 use Rattle.xt_bits.specs.Word.{IsKept}
 use Rattle.xt_bits.specs.Word as bits
 use Rattle.nt_core.specs.declared.netlist.Wire.{Wire}
-use Rattle.nt_core.specs.declared.netlist.Op.{Op}
+use Rattle.nt_core.specs.declared.netlist.Node.{Node}
 use Rattle.nt_core.specs.HostLine.{HostLine}
 use Rattle.nt_core.specs.Parts.{Parts, assembled}
 use Rattle.nt_core.specs.Forms.{IsWidth}
@@ -17,7 +17,7 @@ use Rattle.nt_write.proofs.PortLists.{arg_lines, other_lines}
 use Rattle.nt_read.specs.declared.sketch.Told.{Told}
 use Rattle.nt_read.specs.Words.{greatest}
 use Rattle.nt_read.specs.Names.{names_of}
-use Rattle.nt_read.specs.Sketch.{nothing, is_node_line, lines_in, told, shell_told, form_told, forms_told, all_made, parts_told}
+use Rattle.nt_read.specs.Sketch.{nothing, is_node_line, lines_in, told, shell_told, node_told, nodes_told, parts_told}
 use Rattle.nt_read.proofs.Pieces.{word_bytes}
 use Rattle.nt_read.proofs.PinNames.{pin_word}
 use Rattle.nt_read.proofs.FormTexts.{Fits}
@@ -25,7 +25,7 @@ use Rattle.nt_read.proofs.Sections.{GoodHost, GoodPin}
 use Rattle.nt_read.proofs.Facts.{Counts, counts, fits, good_hosts, good_pins}
 use Rattle.nt_read.proofs.Plain.{Plain, piece, joined, number_plain, name_plain, host_plain, ack_plain, ret_plain, arg_plain, lines_of_text}
 use Rattle.nt_read.proofs.PlainLines.{function_plain, input_plain, output_plain, register_line_plain, memory_line_plain, assign_plain, next_plain, write_plain, all_append, all_lines, all_numbered, with_commas_plain}
-use Rattle.nt_read.proofs.Nodes.{GoodNode, good_nodes, line_plain, formed, formed_append, forms_from, all_made_is}
+use Rattle.nt_read.proofs.Nodes.{GoodNode, good_nodes, line_plain, of_lines, of_lines_append, nodes_from}
 use Rattle.nt_read.proofs.Whole.{GoodFunction, good_functions, GoodWrite, good_writes, driven, IsBytes, port_words, shell_of, lines_told}
 
 -- ---- lines that are no node's
@@ -176,31 +176,31 @@ module _ (most : ℕ) (wide : most < 2 ^ 64) (room : 65536 ≤ most) where
       (assigns_plain (port_names n) n.drives (port_words most wide room n outputs hosts) (driven most n.nodes n.drives (port_widths n) c.nodes shell.connected.drives)))
       (clock_plain n c (driven most n.nodes n.nexts _ c.nodes shell.connected.nexts) (good_writes most n c shell.connected.writes))
 
-  -- ---- the forms
+  -- ---- the nodes
 
-  no_forms : (n : Parts) (fit : Fits most n) (lines : List (List ℕ)) → AllByRecursion Other lines → formed most wide room n fit lines ≡ []
-  no_forms n fit lines others = ap (map (λ line. form_told most (names_of (n.inputs ++ n.outputs)) (drop 7 line))) (none lines others)
+  no_nodes : (n : Parts) (fit : Fits most n) (lines : List (List ℕ)) → AllByRecursion Other lines → of_lines most wide room n fit lines ≡ []
+  no_nodes n fit lines others = ap (map (λ line. node_told most (names_of (n.inputs ++ n.outputs)) (drop 7 line))) (none lines others)
 
-  forms_of_lines : (n : Parts) → IsNetlist n → Counts most n → (fit : Fits most n) → formed most wide room n fit (lines_of n ++ [] ∷ []) ≡ map (λ m. m.op) n.nodes
-  forms_of_lines n net c fit =
-      let F : List (List ℕ) → List Op = formed most wide room n fit in
+  nodes_of_lines : (n : Parts) → IsNetlist n → Counts most n → (fit : Fits most n) → of_lines most wide room n fit (lines_of n ++ [] ∷ []) ≡ n.nodes
+  nodes_of_lines n net c fit =
+      let F : List (List ℕ) → List Node = of_lines most wide room n fit in
       let before : List (List ℕ) = head_lines n ++ input_lines n ++ output_lines n in
       let declared : List (List ℕ) = numbered register_line n.registers ++ numbered memory_line n.memories in
       let nodes : List (List ℕ) = numbered (node_line n) n.nodes in
       let before_others : AllByRecursion Other before = all_append Other (head_lines n ++ input_lines n) (output_lines n) (all_append Other (head_lines n) (input_lines n) (head_others n) (input_others n)) (output_others n) in
-      formed_append most wide room n fit (lines_of n) ([] ∷ [])
+      of_lines_append most wide room n fit (lines_of n) ([] ∷ [])
       ∙ append-nil (F (lines_of n))
-      ∙ formed_append most wide room n fit (before ++ declaration_lines n ++ assign_lines n) (clock_lines n)
-      ∙ ap (λ t. F (before ++ declaration_lines n ++ assign_lines n) ++ t) (no_forms n fit (clock_lines n) (clock_others n))
+      ∙ of_lines_append most wide room n fit (before ++ declaration_lines n ++ assign_lines n) (clock_lines n)
+      ∙ ap (λ t. F (before ++ declaration_lines n ++ assign_lines n) ++ t) (no_nodes n fit (clock_lines n) (clock_others n))
       ∙ append-nil (F (before ++ declaration_lines n ++ assign_lines n))
-      ∙ formed_append most wide room n fit (before ++ declaration_lines n) (assign_lines n)
-      ∙ ap (λ t. F (before ++ declaration_lines n) ++ t) (no_forms n fit (assign_lines n) (assign_others n))
+      ∙ of_lines_append most wide room n fit (before ++ declaration_lines n) (assign_lines n)
+      ∙ ap (λ t. F (before ++ declaration_lines n) ++ t) (no_nodes n fit (assign_lines n) (assign_others n))
       ∙ append-nil (F (before ++ declaration_lines n))
-      ∙ formed_append most wide room n fit before (declaration_lines n)
-      ∙ ap (λ t. t ++ F (declaration_lines n)) (no_forms n fit before before_others)
-      ∙ formed_append most wide room n fit declared nodes
-      ∙ ap (λ t. t ++ F nodes) (no_forms n fit declared (declared_others n))
-      ∙ forms_from most wide room n fit 0 n.nodes (omega (arith, c.nodes)) (good_nodes most n net c.nodes)
+      ∙ of_lines_append most wide room n fit before (declaration_lines n)
+      ∙ ap (λ t. t ++ F (declaration_lines n)) (no_nodes n fit before before_others)
+      ∙ of_lines_append most wide room n fit declared nodes
+      ∙ ap (λ t. t ++ F nodes) (no_nodes n fit declared (declared_others n))
+      ∙ nodes_from most wide room n fit 0 n.nodes (omega (arith, c.nodes)) (good_nodes most n net c.nodes)
 
 -- ---- the whole
 
@@ -211,20 +211,19 @@ pub room : 65536 ≤ greatest
 room = omega arith
 
 -- what a netlist's text tells is the netlist's
-pub tells : (n : Parts) → IsNetlist n → (shell_told greatest (text_of n) ≡ shell_of greatest wide room n) × (forms_told greatest (names_of (n.inputs ++ n.outputs)) (text_of n) ≡ map (λ m. m.op) n.nodes)
+pub tells : (n : Parts) → IsNetlist n → (shell_told greatest (text_of n) ≡ shell_of greatest wide room n) × (nodes_told greatest (names_of (n.inputs ++ n.outputs)) (text_of n) ≡ n.nodes)
 tells n net =
     let c : Counts greatest n = counts greatest n (omega arith) net in
     let fit : Fits greatest n = fits greatest n room net c in
     let lines : lines_in (text_of n) ≡ lines_of n ++ [] ∷ [] = lines_of_text (lines_of n) (plain_lines greatest wide room n net c fit) in
     let told_all : fold (told greatest) nothing (lines_in (text_of n)) ≡ record { shell = shell_of greatest wide room n; asked = length n.hosts } =
     ap (fold (told greatest) nothing) lines ∙ fold-append (told greatest) nothing (lines_of n) ([] ∷ []) ∙ ap (λ s. told greatest s []) (lines_told greatest wide room n net c) in
-    (ap (λ (s : Told). s.shell) told_all, ap (formed greatest wide room n fit) lines ∙ forms_of_lines greatest wide room n net c fit)
+    (ap (λ (s : Told). s.shell) told_all, ap (of_lines greatest wide room n fit) lines ∙ nodes_of_lines greatest wide room n net c fit)
 
 parts_read : (n : Parts) → IsNetlist n → parts_told greatest (text_of n) ≡ n
 parts_read n net =
-    ap (λ s. assembled s (all_made (forms_told greatest (names_of (s.inputs ++ s.outputs)) (text_of n)))) (tells n net).0
-    ∙ ap (λ ops. assembled (shell_of greatest wide room n) (all_made ops)) (tells n net).1
-    ∙ ap (assembled (shell_of greatest wide room n)) (all_made_is n.nodes net.nodes)
+    ap (λ s. assembled s (nodes_told greatest (names_of (s.inputs ++ s.outputs)) (text_of n))) (tells n net).0
+    ∙ ap (assembled (shell_of greatest wide room n)) (tells n net).1
 
 -- two netlists with one text are one
 pub one : (m n : Parts) → IsNetlist m → IsNetlist n → text_of m ≡ text_of n → m ≡ n

@@ -1,17 +1,15 @@
 -- Why bytes are no netlist's text.
-use Rattle.std.proofs.Common.{◌≡◌, ◌≢◌, ℕ, List, ◌++◌, map, refl, sym, ap, ◌∙◌, subst, Option, Some, None}
+use Rattle.std.proofs.Common.{◌≡◌, ◌≢◌, ℕ, List, ◌++◌, refl, sym, ap, ◌∙◌, subst, Option, Some, None}
 use Rattle.std.specs.Prelude.{MatchOption, Result, Ok, Err, IfOk}
 use Rattle.nt_core.specs.declared.netlist.Node.{Node}
-use Rattle.nt_core.specs.declared.netlist.Op.{Op}
 use Rattle.nt_core.specs.Parts.{Parts, ShellParts, assembled}
 use Rattle.nt_core.specs.Conditions.{IsNetlist, IsShell, AreNodes}
 use Rattle.nt_core.specs.Text.{text_of}
 use Rattle.nt_read.specs.Words.{greatest}
 use Rattle.nt_read.specs.Names.{names_of}
-use Rattle.nt_read.specs.Sketch.{shell_told, forms_told, all_made}
+use Rattle.nt_read.specs.Sketch.{shell_told, nodes_told}
 use Rattle.nt_read.specs.Told.{IsTold}
 use Rattle.nt_read.proofs.Distinct.{AreApart}
-use Rattle.nt_read.proofs.Nodes.{all_made_is}
 use Rattle.nt_read.proofs.Whole.{shell_of}
 use Rattle.nt_read.proofs.Reading.{wide, room, tells, one}
 
@@ -22,28 +20,26 @@ IsNoText bytes = (n : Parts) → IsNetlist n → text_of n ≢ bytes
 shell_is : (bytes : List ℕ) (s : ShellParts) (n : Parts) → s ≡ shell_told greatest bytes → IsNetlist n → text_of n ≡ bytes → s ≡ shell_of greatest wide room n
 shell_is bytes s n told net same = told ∙ ap (shell_told greatest) (sym same) ∙ (tells n net).0
 
-forms_are : (bytes : List ℕ) (s : ShellParts) (forms : List Op) (n : Parts) → s ≡ shell_told greatest bytes → forms ≡ forms_told greatest (names_of (s.inputs ++ s.outputs)) bytes → IsNetlist n → text_of n ≡ bytes → map (λ m. m.op) n.nodes ≡ forms
-forms_are bytes s forms n told forms_told_is net same = sym (
-    forms_told_is
-    ∙ ap (λ p. forms_told greatest (names_of (p.inputs ++ p.outputs)) bytes) (shell_is bytes s n told net same)
-    ∙ ap (forms_told greatest (names_of (n.inputs ++ n.outputs))) (sym same)
-    ∙ (tells n net).1)
+nodes_are : (bytes : List ℕ) (s : ShellParts) (nodes : List Node) (n : Parts) → s ≡ shell_told greatest bytes → nodes ≡ nodes_told greatest (names_of (s.inputs ++ s.outputs)) bytes → IsNetlist n → text_of n ≡ bytes → nodes ≡ n.nodes
+nodes_are bytes s nodes n told nodes_told_are net same =
+    nodes_told_are
+    ∙ ap (λ p. nodes_told greatest (names_of (p.inputs ++ p.outputs)) bytes) (shell_is bytes s n told net same)
+    ∙ ap (nodes_told greatest (names_of (n.inputs ++ n.outputs))) (sym same)
+    ∙ (tells n net).1
 
 -- two pins have one name
 pub twice : (bytes : List ℕ) (s : ShellParts) → s ≡ shell_told greatest bytes → (AreApart (s.inputs ++ s.outputs) → ⊥) → IsNoText bytes
 twice bytes s told never n net same = never (subst (λ p. AreApart (p.inputs ++ p.outputs)) (sym (shell_is bytes s n told net same)) net.shell.pins.distinct)
 
 -- the nodes don't fit one another
-pub misfit : (bytes : List ℕ) (s : ShellParts) (forms : List Op) → s ≡ shell_told greatest bytes → forms ≡ forms_told greatest (names_of (s.inputs ++ s.outputs)) bytes
-    → ((nodes : List Node) → AreNodes nodes → map (λ m. m.op) nodes ≢ forms) → IsNoText bytes
-misfit bytes s forms told forms_is never n net same = never n.nodes net.nodes (forms_are bytes s forms n told forms_is net same)
+pub misfit : (bytes : List ℕ) (s : ShellParts) (nodes : List Node) → s ≡ shell_told greatest bytes → nodes ≡ nodes_told greatest (names_of (s.inputs ++ s.outputs)) bytes → (AreNodes nodes → ⊥) → IsNoText bytes
+misfit bytes s nodes told nodes_told_are never n net same = never (subst AreNodes (sym (nodes_are bytes s nodes n told nodes_told_are net same)) net.nodes)
 
 -- the parts make no netlist, or one with another text
-pub other : (bytes : List ℕ) (s : ShellParts) (forms : List Op) (nodes : List Node) → s ≡ shell_told greatest bytes → forms ≡ forms_told greatest (names_of (s.inputs ++ s.outputs)) bytes → nodes ≡ all_made forms
-    → (IsShell (assembled s nodes) → text_of (assembled s nodes) ≢ bytes) → IsNoText bytes
-other bytes s forms nodes told forms_is nodes_are never n net same =
-    let nodes_is : nodes ≡ n.nodes = nodes_are ∙ ap all_made (sym (forms_are bytes s forms n told forms_is net same)) ∙ all_made_is n.nodes net.nodes in
-    let whole : assembled s nodes ≡ n = ap (λ p. assembled p nodes) (shell_is bytes s n told net same) ∙ ap (assembled (shell_of greatest wide room n)) nodes_is in
+pub other : (bytes : List ℕ) (s : ShellParts) (nodes : List Node) → s ≡ shell_told greatest bytes → nodes ≡ nodes_told greatest (names_of (s.inputs ++ s.outputs)) bytes → (IsShell (assembled s nodes) → text_of (assembled s nodes) ≢ bytes) → IsNoText bytes
+other bytes s nodes told nodes_told_are never n net same =
+    let whole : assembled s nodes ≡ n =
+    ap (λ p. assembled p nodes) (shell_is bytes s n told net same) ∙ ap (assembled (shell_of greatest wide room n)) (nodes_are bytes s nodes n told nodes_told_are net same) in
     never (subst IsShell (sym whole) net.shell) (ap text_of whole ∙ same)
 
 -- what was found, where what was not found says something else

@@ -5,8 +5,6 @@ use Rattle.nt_core.specs.declared.netlist.Wire.{Wire}
 use Rattle.nt_core.specs.declared.netlist.Memory.{Memory}
 use Rattle.nt_core.specs.declared.netlist.MemWrite.{MemWrite}
 use Rattle.nt_core.specs.declared.netlist.Node.{Node}
-use Rattle.nt_core.specs.declared.netlist.Op.{Op}
-use Rattle.nt_core.specs.Growth.{made}
 use Rattle.nt_core.specs.FunctionLine.{FunctionLine}
 use Rattle.nt_core.specs.HostLine.{HostLine}
 use Rattle.nt_core.specs.Parts.{Parts, ShellParts, assembled}
@@ -39,11 +37,6 @@ changed_at change hosts i (Some h) = slice_set hosts i (change h)
 
 abbrev pub changed : (HostLine → HostLine) → List HostLine → ℕ → List HostLine
 changed change hosts i = changed_at change hosts i (slice_get hosts i)
-
--- ---- nodes, made of their forms one after another
-
-abbrev pub all_made : List Op → List Node
-all_made ops = fold (λ nodes op. nodes ++ made nodes op ∷ []) [] ops
 
 -- ---- lines, split at their line feeds
 
@@ -152,14 +145,14 @@ module _ (most : ℕ) where
   abbrev pub shell_told : List ℕ → ShellParts
   shell_told text = (fold told nothing (lines_in text)).shell
 
-  -- the form of a node: behind its range and its name, over the names of the pins
-  abbrev pub form_told : List (List ℕ) → List ℕ → Op
-  form_told names text = form most names (range most text) (drop 3 (after_own (after_range text)))
+  -- a node: its range, its name, and its form over the names of the pins
+  abbrev pub node_told : List (List ℕ) → List ℕ → Node
+  node_told names text = record { width = range most text; op = form most names (range most text) (drop 3 (after_own (after_range text))) }
 
-  -- the forms of the nodes
-  abbrev pub forms_told : List (List ℕ) → List ℕ → List Op
-  forms_told names text = map (λ line. form_told names (drop 7 line)) (filter is_node_line (lines_in text))
+  -- the nodes
+  abbrev pub nodes_told : List (List ℕ) → List ℕ → List Node
+  nodes_told names text = map (λ line. node_told names (drop 7 line)) (filter is_node_line (lines_in text))
 
   -- the parts that a text tells
   abbrev pub parts_told : List ℕ → Parts
-  parts_told text = assembled (shell_told text) (all_made (forms_told (names_of ((shell_told text).inputs ++ (shell_told text).outputs)) text))
+  parts_told text = assembled (shell_told text) (nodes_told (names_of ((shell_told text).inputs ++ (shell_told text).outputs)) text)

@@ -1,15 +1,15 @@
-//! The forms of nodes.
+//! Nodes and their forms.
 ghost use Rattle.std.specs.Prelude.{◌≡◌, ◌++◌, ◌∷◌, [], if◌then◌else◌, IfOk, OnOk, drop, map, min};
 ghost use Rattle.xt_base.specs.Identifiers.{begins_word};
 ghost use Rattle.nt_read.specs.Words.{greatest};
-ghost use Rattle.nt_read.specs.Sketch.{is_node_line, form_told, forms_told};
+ghost use Rattle.nt_read.specs.Sketch.{is_node_line, node_told, nodes_told};
 ghost use Rattle.nt_read.specs.Forms.{own, after_own, place_of, comparison_form, infix_form, signed_form, host_form, own_form, braced_form, marked_form, form};
 
 use crate::memory::put;
 use crate::sketch::is_node_line;
 use crate::words::{byte_at, constant, is_digit, line, number, range, skip, word};
 use indexmap::IndexSet;
-use nt_core::Op;
+use nt_core::{Node, Op};
 use std::alloc::Global;
 use xt_base::{NoMemory, begins_word};
 
@@ -163,35 +163,36 @@ fn braced_form(text: &[u8]) -> Op
     Op::Concat(a, operand(rest, 2))
 }
 
-/// The form of a node: behind its range and its name, over the names of the pins.
-fn form_of(names: &IndexSet<&[u8]>, text: &[u8]) -> Op
-    ensures { result ≡ form_told greatest (map (λ k. k.now) names.now.keys) text.now }
-{
-    let (width, rest) = range(text);
-    let (_, rest) = own(rest);
-    form(names, width, skip(rest, 3))
-}
-
-/// Puts the form of a line, if it is a node's.
-fn tell_form(forms: &mut Vec<Op>, names: &IndexSet<&[u8]>, line: &[u8]) -> Result<(), NoMemory>
-    ensures { OnOk result (forms.new.items ≡ forms.old.items ++ (if is_node_line line.now then form_told greatest (map (λ k. k.now) names.now.keys) (drop 7 line.now) ∷ [] else [])) }
+/// Puts the node of a line, if it is a node's.
+fn tell_node(nodes: &mut Vec<Node>, names: &IndexSet<&[u8]>, line: &[u8]) -> Result<(), NoMemory>
+    ensures { OnOk result (nodes.new.items ≡ nodes.old.items ++ (if is_node_line line.now then node_told greatest (map (λ k. k.now) names.now.keys) (drop 7 line.now) ∷ [] else [])) }
 {
     if is_node_line(line) {
-        return put(forms, form_of(names, skip(line, 7)));
+        return put_node(nodes, names, skip(line, 7));
     }
     Ok(())
 }
 
-/// The forms of the nodes that a text tells, over the names of the pins.
-pub fn forms(alloc: Global, names: &IndexSet<&[u8]>, text: &[u8]) -> Result<Vec<Op>, NoMemory>
-    ensures { IfOk result (λ forms. forms.items ≡ forms_told greatest (map (λ k. k.now) names.now.keys) text.now) }
+/// Puts a node: its range, its name, and its form over the names of the pins.
+fn put_node(nodes: &mut Vec<Node>, names: &IndexSet<&[u8]>, text: &[u8]) -> Result<(), NoMemory>
+    ensures { OnOk result (nodes.new.items ≡ nodes.old.items ++ node_told greatest (map (λ k. k.now) names.now.keys) text.now ∷ []) }
 {
-    let mut forms = Vec::new(alloc);
+    let (width, rest) = range(text);
+    let (_, rest) = own(rest);
+    let op = form(names, width, skip(rest, 3));
+    put(nodes, Node { width, op })
+}
+
+/// The nodes that a text tells, over the names of the pins.
+pub fn nodes(alloc: Global, names: &IndexSet<&[u8]>, text: &[u8]) -> Result<Vec<Node>, NoMemory>
+    ensures { IfOk result (λ nodes. nodes.items ≡ nodes_told greatest (map (λ k. k.now) names.now.keys) text.now) }
+{
+    let mut nodes = Vec::new(alloc);
     let mut rest = text;
     while !rest.is_empty() {
         let (first, others) = line(rest);
-        tell_form(&mut forms, names, first)?;
+        tell_node(&mut nodes, names, first)?;
         rest = others;
     }
-    Ok(forms)
+    Ok(nodes)
 }

@@ -12,8 +12,6 @@ mod memory;
 mod names;
 mod netlist;
 mod sketch;
-#[cfg(test)]
-mod tests;
 mod words;
 
 use nt_core::Netlist;

@@ -1,18 +1,17 @@
 //! A whole text: what it tells, made a netlist, and compared with the netlist's own text.
-ghost use Rattle.std.specs.Prelude.{◌≡◌, ◌≢◌, ◌↔◌, ◌++◌, List, map, IfOk, MatchOption, AllPairs, IsTrue};
-ghost use Rattle.nt_core.specs.declared.netlist.Node.{Node};
+ghost use Rattle.std.specs.Prelude.{◌≡◌, ◌≢◌, ◌↔◌, ◌++◌, IfOk, MatchOption, AllPairs, IsTrue};
 ghost use Rattle.nt_core.specs.Conditions.{IsNetlist, IsShell, AreNodes};
 ghost use Rattle.nt_core.specs.Parts.{Parts, assembled};
 ghost use Rattle.nt_core.specs.Text.{text_of};
 ghost use Rattle.nt_read.specs.Words.{greatest};
 ghost use Rattle.nt_read.specs.Names.{names_of};
-ghost use Rattle.nt_read.specs.Sketch.{all_made, forms_told};
+ghost use Rattle.nt_read.specs.Sketch.{nodes_told};
 ghost use Rattle.nt_read.specs.Told.{IsTold};
 
-use crate::forms::forms;
+use crate::forms::nodes;
 use crate::names::distinct_names;
 use crate::sketch::shell;
-use nt_core::{Builder, Netlist, Op, Shell, has_operands};
+use nt_core::{Netlist, Node, Shell, are_nodes};
 use nt_write::{WriteEnd, write};
 use std::alloc::Global;
 use xt_base::{MemSink, NoMemory};
@@ -25,54 +24,41 @@ pub fn netlist(alloc: Global, bytes: &[u8]) -> Result<Option<Netlist>, NoMemory>
     ensures { IfOk result (λ found. MatchOption found ((n : Parts) → IsNetlist n → text_of n ≢ bytes.now) (IsTold bytes.now)) }
 {
     let shell = shell(alloc, bytes)?;
-    let Some(forms) = named_forms(alloc, &shell, bytes)? else {
+    let Some(nodes) = named_nodes(alloc, &shell, bytes)? else {
         return Ok(None);
     };
-    let Some(builder) = built(alloc, forms.as_slice())? else {
+    if !are_nodes(nodes.as_slice()) {
         return Ok(None);
-    };
-    finished(alloc, shell, builder, bytes)
+    }
+    finished(alloc, shell, nodes, bytes)
 }
 
-/// The forms of the nodes; None where two pins have one name.
-fn named_forms(alloc: Global, shell: &Shell, bytes: &[u8]) -> Result<Option<Vec<Op>>, NoMemory>
-    ensures forms { IfOk result (λ found. MatchOption found (AllPairs (λ a b. a.name ≢ b.name) (shell.now.inputs ++ shell.now.outputs) → ⊥) (λ forms. forms.items ≡ forms_told greatest (names_of (shell.now.inputs ++ shell.now.outputs)) bytes.now)) }
-    ensures distinct { IfOk result (λ found. MatchOption found (Unit {0}) (λ forms. AllPairs (λ a b. a.name ≢ b.name) (shell.now.inputs ++ shell.now.outputs))) }
+/// The nodes; None where two pins have one name.
+fn named_nodes(alloc: Global, shell: &Shell, bytes: &[u8]) -> Result<Option<Vec<Node>>, NoMemory>
+    ensures nodes { IfOk result (λ found. MatchOption found (AllPairs (λ a b. a.name ≢ b.name) (shell.now.inputs ++ shell.now.outputs) → ⊥) (λ nodes. nodes.items ≡ nodes_told greatest (names_of (shell.now.inputs ++ shell.now.outputs)) bytes.now)) }
+    ensures distinct { IfOk result (λ found. MatchOption found (Unit {0}) (λ nodes. AllPairs (λ a b. a.name ≢ b.name) (shell.now.inputs ++ shell.now.outputs))) }
 {
     match distinct_names(alloc, shell.inputs.as_slice(), shell.outputs.as_slice())? {
-        Some(names) => Ok(Some(forms(alloc, &names, bytes)?)),
+        Some(names) => Ok(Some(nodes(alloc, &names, bytes)?)),
         None => Ok(None),
     }
-}
-
-/// The nodes of these forms, one after another; None where a form's operands don't fit.
-fn built(alloc: Global, forms: &[Op]) -> Result<Option<Builder>, NoMemory>
-    ensures { IfOk result (λ found. MatchOption found ((nodes : List Node) → AreNodes nodes → map (λ m. m.op) nodes ≢ forms.now) (λ nodes. nodes ≡ all_made forms.now)) }
-{
-    let mut builder = Builder::new(alloc);
-    for op in forms {
-        if !has_operands(builder.nodes(), op) {
-            return Ok(None);
-        }
-        builder.node(*op)?;
-    }
-    Ok(Some(builder))
 }
 
 /// The netlist of these parts, if they make one and the bytes are its text.
 fn finished(
     alloc: Global,
     shell: Shell,
-    builder: Builder,
+    nodes: Vec<Node>,
     bytes: &[u8],
 ) -> Result<Option<Netlist>, NoMemory>
-    requires { AllPairs (λ a b. a.name ≢ b.name) (shell.inputs ++ shell.outputs) }
-    ensures { IfOk result (λ found. MatchOption found (IsShell (assembled shell builder) → text_of (assembled shell builder) ≢ bytes.now) (IsTold bytes.now)) }
+    requires distinct { AllPairs (λ a b. a.name ≢ b.name) (shell.inputs ++ shell.outputs) }
+    requires nodes { AreNodes nodes.items }
+    ensures { IfOk result (λ found. MatchOption found (IsShell (assembled shell nodes.items) → text_of (assembled shell nodes.items) ≢ bytes.now) (IsTold bytes.now)) }
 {
-    if !shell.fits_distinct(builder.nodes()) {
+    if !shell.fits_distinct(nodes.as_slice()) {
         return Ok(None);
     }
-    let netlist = builder.finish(shell);
+    let netlist = shell.with_nodes(nodes);
     if is_text_of(alloc, &netlist, bytes)? {
         Ok(Some(netlist))
     } else {

@@ -15,6 +15,3 @@ pub use runner::Runner;
 
 /// The greatest number of items of a reply.
 pub const MAX_ITEMS: usize = 16;
-
-#[cfg(test)]
-mod tests;

@@ -10,8 +10,6 @@ mod forms;
 mod head;
 mod outputs;
 mod pen;
-#[cfg(test)]
-mod tests;
 mod text;
 mod ticks;
 mod words;
