@@ -1,7 +1,7 @@
 -- How reading comes to a part of the grammar, from how it comes to the parts of that part.
 use Rattle.std.proofs.Common.{◌≡◌, ◌≤◌, ◌==◌, ℕ, zero, suc, ◌+◌, List, Option, Bool, true, false, Ok, slice_get, refl, ◌∙◌, arith}
 use Rattle.std.proofs.lemmas.Bool.{eqb-true}
-use Rattle.vl_tree.specs.declared.lexemes.Lexeme.{Lexeme}
+use Rattle.vl_tree.specs.declared.terminals.Terminal.{Terminal}
 use Rattle.vl_tree.specs.declared.exprs.Expr.{Expr}
 use Rattle.vl_expr.specs.declared.found.Found.{Found}
 use Rattle.vl_expr.specs.Reading.{Reading, reader_of, level_of, tail_of}
@@ -18,16 +18,16 @@ pub record Reads {X : Type 0} (r : Reading (Found X)) (tree : X) (end n : ℕ) :
   pub is : r ≡ Ok (found tree end depth)
 
 -- what is left to read of a level, when a part of the level was read
-abbrev pub finish_by : List Lexeme → ℕ → ℕ → ℕ → ℕ → Found Expr → Bool → Reading (Found Expr)
+abbrev pub finish_by : List Terminal → ℕ → ℕ → ℕ → ℕ → Found Expr → Bool → Reading (Found Expr)
 finish_by ls n l from turns p true = Ok p
 finish_by ls n l from turns p false = tail_of ls (reader_of ls n) n l from turns p
 
-abbrev pub finish : List Lexeme → ℕ → ℕ → ℕ → ℕ → Found Expr → Reading (Found Expr)
+abbrev pub finish : List Terminal → ℕ → ℕ → ℕ → ℕ → Found Expr → Reading (Found Expr)
 finish ls n zero from turns p = Ok p
 finish ls n (suc l) from turns p = finish_by ls n l from turns p (l == 10)
 
 -- reading a level comes to this tree, and may go on
-pub record Comes (ls : List Lexeme) (n m l i j : ℕ) (e : Expr) : Type 0 where
+pub record Comes (ls : List Terminal) (n m l i j : ℕ) (e : Expr) : Type 0 where
   pub turns : ℕ
   pub depth : ℕ
   pub least : 1 ≤ depth
@@ -36,7 +36,7 @@ pub record Comes (ls : List Lexeme) (n m l i j : ℕ) (e : Expr) : Type 0 where
   pub is : level_of ls (reader_of ls n) n l i ≡ finish ls n l i turns (found e j depth)
 
 -- it does so whatever depth is allowed, if it is at least m
-pub record Claim (ls : List Lexeme) (m l i j : ℕ) (e : Expr) : Type 0 where
+pub record Claim (ls : List Terminal) (m l i j : ℕ) (e : Expr) : Type 0 where
   pub comes : (n : ℕ) → m ≤ suc n → Comes ls n m l i j e
 
 -- what may follow a part of a level that may go on
@@ -48,10 +48,10 @@ abbrev pub loosest : ℕ → ℕ
 loosest zero = zero
 loosest (suc l) = loosest_by l (l == 10)
 
-pub record Loose (l : ℕ) (o : Option Lexeme) : Type 0 where
+pub record Loose (l : ℕ) (o : Option Terminal) : Type 0 where
   pub stops : Stops (loosest l) o
 
-pub loose : (l : ℕ) (o : Option Lexeme) → Stops l o → Loose l o
+pub loose : (l : ℕ) (o : Option Terminal) → Stops l o → Loose l o
 loose zero o s = record { stops = s }
 loose (suc l) o s = record { stops = by_ten (l == 10) refl }
   where
@@ -60,14 +60,14 @@ loose (suc l) o s = record { stops = by_ten (l == 10) refl }
     by_ten false e = lower l o s
 
 -- what may follow a level may follow the one below
-pub loose_below : (l : ℕ) (o : Option Lexeme) → Loose (suc l) o → Stops l o
+pub loose_below : (l : ℕ) (o : Option Terminal) → Loose (suc l) o → Stops l o
 loose_below l o s = by_ten (l == 10) refl s.stops
   where
     by_ten : (b : Bool) → (l == 10) ≡ b → Stops (loosest_by l b) o → Stops l o
     by_ten true e t = let h = t.above in let ten : l ≡ 10 = eqb-true l 10 e in record { above = omega arith }
     by_ten false e t = t
 
-module _ (ls : List Lexeme) where
+module _ (ls : List Terminal) where
   tail_ends : (n l from turns : ℕ) (p : Found Expr) → Stops (suc l) (slice_get ls p.end) → tail_of ls (reader_of ls n) n l from turns p ≡ Ok p
   tail_ends n l from zero p s = refl
   tail_ends n l from (suc turns) p s = rw (no_operator l (slice_get ls p.end) s) refl

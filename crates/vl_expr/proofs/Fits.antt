@@ -1,8 +1,8 @@
 -- What is read is not deeper than it may be.
 use Rattle.std.proofs.Common.{◌≡◌, ◌≤◌, ◌==◌, ◌&&◌, ℕ, zero, suc, ◌+◌, List, Option, Some, None, Bool, true, false, Ok, slice_get, length, nat_le, subst, arith}
 use Rattle.std.proofs.lemmas.Bool.{leb-true}
-use Rattle.vl_tree.specs.declared.lexemes.Lexeme.{Lexeme}
-use Rattle.vl_tree.specs.declared.lexemes.Lexeme.TheVariants as lex
+use Rattle.vl_tree.specs.declared.terminals.Terminal.{Terminal}
+use Rattle.vl_tree.specs.declared.terminals.Terminal.TheVariants as lex
 use Rattle.vl_tree.specs.declared.operators.UnOp.{UnOp}
 use Rattle.vl_tree.specs.declared.operators.BinOp.{BinOp}
 use Rattle.vl_tree.specs.declared.exprs.Expr.{Expr}
@@ -28,7 +28,7 @@ pub record Fits (below : Reader) (n : ℕ) : Type 0 where
 same_depth : {X : Type 0} {n : ℕ} (p q : Found X) → p ≡ q → p.depth ≤ n → q.depth ≤ n
 same_depth {n = n} p q e h = subst (λ r. r.depth ≤ n) e h
 
-module _ (ls : List Lexeme) (below : Reader) (n : ℕ) (fits : Fits below n) where
+module _ (ls : List Terminal) (below : Reader) (n : ℕ) (fits : Fits below n) where
   exprs_from_fit : (turns : ℕ) (all q : Found (List Expr)) → all.depth ≤ n → Reading.exprs_from ls below turns all ≡ Ok q → q.depth ≤ n
   exprs_from_fit zero all q h e = same_depth all q (ok_one e) h
   exprs_from_fit (suc turns) all q h e =
@@ -45,7 +45,7 @@ module _ (ls : List Lexeme) (below : Reader) (n : ℕ) (fits : Fits below n) whe
       let b = bind_ok _ _ q e in
       exprs_from_fit (length ls) (single b.val) q (fits.level 11 at b.val b.first) b.rest
 
-  closed_fits : {X : Type 0} (x : Lexeme) (p q : Found X) → p.depth ≤ n → Reading.closed ls x p ≡ Ok q → q.depth ≤ n
+  closed_fits : {X : Type 0} (x : Terminal) (p q : Found X) → p.depth ≤ n → Reading.closed ls x p ≡ Ok q → q.depth ≤ n
   closed_fits x p q h e = let t = past_ok ls p.end x _ q e in same_depth _ q (ok_one t.rest) h
 
   pub args_fit : (at : ℕ) (q : Found (List Expr)) → Reading.args_of ls below at ≡ Ok q → q.depth ≤ n
@@ -97,10 +97,7 @@ module _ (ls : List Lexeme) (below : Reader) (n : ℕ) (fits : Fits below n) whe
 
   name_fits : (at : ℕ) (p : Found Expr) (call : Bool) → Reading.name_by ls below at call ≡ Ok p → p.depth ≤ suc n
   name_fits at p true e =
-      let b = bind_ok _ _ p e in
-      let f = exprs_fit (at + 2) b.val b.first in
-      let t = past_ok ls b.val.end lex.CloseParen _ p b.rest in
-      same_depth _ p (ok_one t.rest) (omega arith)
+      let b = bind_ok _ _ p e in let f = args_fit (at + 1) b.val b.first in same_depth _ p (ok_one b.rest) (omega arith)
   name_fits at p false e =
       let b = bind_ok _ _ p e in let f = selects_fit (at + 1) b.val b.first in same_depth _ p (ok_one b.rest) (omega arith)
 
@@ -192,7 +189,7 @@ module _ (ls : List Lexeme) (below : Reader) (n : ℕ) (fits : Fits below n) whe
   level_fits (suc l) at p e =
       let b = bind_ok _ _ p e in rest_fits l at b.val p (l == 10) (level_fits l at b.val b.first) b.rest
 
-pub reader_fits : (ls : List Lexeme) (n : ℕ) → Fits (Reading.reader_of ls n) n
+pub reader_fits : (ls : List Terminal) (n : ℕ) → Fits (Reading.reader_of ls n) n
 reader_fits ls zero = record { level = λ l at p e. cc; select = λ at s e. cc }
 reader_fits ls (suc n) = record {
   level = λ l at p e. level_fits ls (Reading.reader_of ls n) n (reader_fits ls n) l at p e;

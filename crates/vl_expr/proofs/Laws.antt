@@ -1,7 +1,7 @@
 -- What is read is an expression of the grammar, what is one is read, and it is the only one there.
 use Rattle.std.proofs.Common.{◌≡◌, ◌≤◌, ℕ, max, List, Result, Ok, Err, slice_get, refl, sym, ap, subst, ◌∙◌, arith}
 use Rattle.std.specs.Prelude.{IfOk, MatchResult}
-use Rattle.vl_tree.specs.declared.lexemes.Lexeme.{Lexeme}
+use Rattle.vl_tree.specs.declared.terminals.Terminal.{Terminal}
 use Rattle.vl_tree.specs.declared.exprs.Expr.{Expr}
 use Rattle.vl_tree.specs.Expressions.{IsExpr, IsWholeExpr, ends_expr}
 use Rattle.vl_expr.specs.declared.found.Found.{Found}
@@ -19,7 +19,7 @@ use Rattle.vl_expr.proofs.Complete.{level_comes}
 pub not_read : {X : Type 0} {k : ℕ} {x : X} → ◌≡◌ {A = Reading X} (Err k) (Ok x) → ⊥
 not_read e = cc
 
-module _ (ls : List Lexeme) where
+module _ (ls : List Terminal) where
   -- what is read is an expression
   pub expr_sound : (n at : ℕ) (p : Found Expr) → expr_of ls n at ≡ Ok p → IsExpr ls n at p.end p.tree
   expr_sound n at p e =

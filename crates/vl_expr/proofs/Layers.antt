@@ -1,8 +1,8 @@
 -- How reading comes to an expression of a layer, from how it comes to its operands.
 use Rattle.std.proofs.Common.{◌≡◌, ◌≤◌, ◌==◌, ℕ, zero, suc, ◌+◌, max, List, Some, Bool, true, false, Ok, slice_get, refl, sym, ap, ◌∙◌, lit<, arith}
 use Rattle.std.proofs.lemmas.Bool.{le-leb, ne_eqb}
-use Rattle.vl_tree.specs.declared.lexemes.Lexeme.{Lexeme}
-use Rattle.vl_tree.specs.declared.lexemes.Lexeme.TheVariants as lex
+use Rattle.vl_tree.specs.declared.terminals.Terminal.{Terminal}
+use Rattle.vl_tree.specs.declared.terminals.Terminal.TheVariants as lex
 use Rattle.vl_tree.specs.declared.operators.BinOp.{BinOp}
 use Rattle.vl_tree.specs.declared.exprs.Expr.{Expr}
 use Rattle.vl_tree.specs.declared.exprs.Expr.TheVariants as expr
@@ -17,7 +17,7 @@ use Rattle.vl_expr.proofs.Follow.{Stops, binary_within, operator_there, no_quest
 use Rattle.vl_expr.proofs.Comes.{found, Comes, Claim, Loose, loose_below, loosest_by, finish_by, settled, below_reads}
 use Rattle.vl_expr.proofs.Primaries.{bind_at, if_true, if_false, stops_at}
 
-module _ (ls : List Lexeme) where
+module _ (ls : List Terminal) where
   pub tighter_comes : {m l i j : ℕ} {e : Expr} → Claim ls m l i j e → Loose (suc l) (slice_get ls j) → Claim ls m (suc l) i j e
   tighter_comes {m = m} {l = l} {i = i} {j = j} {e = e} c s = record { comes = comes }
     where
@@ -47,7 +47,7 @@ module _ (ls : List Lexeme) where
     one : turns ≡ suc left
     is : tail_of ls (reader_of ls n) n l from turns p ≡ tail_of ls (reader_of ls n) n l from left q
 
-  turned : {n l from k d : ℕ} {x : Lexeme} {op : BinOp} {b : Expr} (turns : ℕ) (p : Found Expr) → 1 ≤ turns → p.depth ≤ n →
+  turned : {n l from k d : ℕ} {x : Terminal} {op : BinOp} {b : Expr} (turns : ℕ) (p : Found Expr) → 1 ≤ turns → p.depth ≤ n →
       At ls p.end x → binary x ≡ Some (suc l, op) → (reader_of ls n).level l (p.end + 1) ≡ Ok (found b k d) →
       Turned n l from turns p (node (expr.Binary from op p.tree b) k (max p.depth d))
   turned zero p some fits h o r = absurd (omega arith)
@@ -59,7 +59,7 @@ module _ (ls : List Lexeme) where
         ∙ ap (λ read. read >>= tail_of ls (reader_of ls n) n l from turns) (if_true _ _ _ (le-leb p.depth n fits) ∙ bind_at _ r);
   }
 
-  pub binary_comes : {m l i j k : ℕ} {x : Lexeme} {op : BinOp} {a b : Expr} → Claim ls m (suc l) i j a → At ls j x →
+  pub binary_comes : {m l i j k : ℕ} {x : Terminal} {op : BinOp} {a b : Expr} → Claim ls m (suc l) i j a → At ls j x →
       binary x ≡ Some (suc l, op) → Claim ls m l (j + 1) k b → Loose (suc l) (slice_get ls k) →
       Claim ls (suc m) (suc l) i k (expr.Binary i op a b)
   binary_comes {m = m} {l = l} {i = i} {j = j} {k = k} {x = x} {op = op} {a = a} {b = b} ca h o cb s = record { comes = comes }

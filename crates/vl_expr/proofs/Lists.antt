@@ -2,8 +2,8 @@
 use Rattle.std.proofs.Common.{◌≡◌, ◌≤◌, ℕ, zero, suc, ◌+◌, max, List, [], ◌∷◌, ◌++◌, Some, false, Ok, slice_get, length, refl, ap, ◌∙◌, append_assoc, lit<, arith}
 use Rattle.std.proofs.lemmas.Bool.{and_right, and_from}
 use Rattle.std.proofs.lemmas.Option.{slice_get_within}
-use Rattle.vl_tree.specs.declared.lexemes.Lexeme.{Lexeme}
-use Rattle.vl_tree.specs.declared.lexemes.Lexeme.TheVariants as lex
+use Rattle.vl_tree.specs.declared.terminals.Terminal.{Terminal}
+use Rattle.vl_tree.specs.declared.terminals.Terminal.TheVariants as lex
 use Rattle.vl_tree.specs.declared.exprs.Expr.{Expr}
 use Rattle.vl_tree.specs.declared.exprs.Expr.TheVariants as expr
 use Rattle.vl_tree.specs.declared.exprs.Select.{Select}
@@ -22,7 +22,7 @@ use Rattle.vl_expr.proofs.Follow.{Stops, Closes, no_bracket}
 use Rattle.vl_expr.proofs.Comes.{found, Reads, Claim, below_reads}
 use Rattle.vl_expr.proofs.Primaries.{bind_at, if_true, if_false, stops_at, not_at, node_comes, token_is}
 
-module _ (ls : List Lexeme) where
+module _ (ls : List Terminal) where
   -- selects
 
   pub index_reads : {m i j : ℕ} {e : Expr} → At ls i lex.OpenBracket → Claim ls m 11 (i + 1) j e → At ls j lex.CloseBracket →
@@ -38,7 +38,7 @@ module _ (ls : List Lexeme) where
             ∙ past_at ls j lex.CloseBracket _ k;
       }
 
-  range_reads : (i : ℕ) {m j k : ℕ} {a b : Expr} (x : Lexeme) (kind : Between) → Stops 11 (Some x) → between_of (Some x) ≡ Some kind →
+  range_reads : (i : ℕ) {m j k : ℕ} {a b : Expr} (x : Terminal) (kind : Between) → Stops 11 (Some x) → between_of (Some x) ≡ Some kind →
       At ls i lex.OpenBracket → Claim ls m 11 (i + 1) j a → At ls j x → Claim ls m 11 (j + 1) k b → At ls k lex.CloseBracket →
       (n : ℕ) → suc m ≤ n → Reads ((reader_of ls n).select i) (Reading.range_select kind i a b) (k + 1) (suc m)
   range_reads i x kind s w h ca hx cb hk zero le = absurd (omega arith)

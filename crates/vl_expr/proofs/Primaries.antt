@@ -1,7 +1,7 @@
 -- How reading comes to an operand, from how it comes to its parts.
 use Rattle.std.proofs.Common.{◌≡◌, ◌≤◌, ℕ, suc, ◌+◌, List, Option, Some, None, Bool, true, false, cond, Ok, slice_get, refl, sym, ap, subst, ◌∙◌, lit<, arith}
-use Rattle.vl_tree.specs.declared.lexemes.Lexeme.{Lexeme}
-use Rattle.vl_tree.specs.declared.lexemes.Lexeme.TheVariants as lex
+use Rattle.vl_tree.specs.declared.terminals.Terminal.{Terminal}
+use Rattle.vl_tree.specs.declared.terminals.Terminal.TheVariants as lex
 use Rattle.vl_tree.specs.declared.operators.Sign.{Sign}
 use Rattle.vl_tree.specs.declared.operators.UnOp.{UnOp}
 use Rattle.vl_tree.specs.declared.exprs.Expr.{Expr}
@@ -30,13 +30,13 @@ if_true b x y e = rw e
 pub if_false : {X : Type 0} (b : Bool) (x y : X) → b ≡ false → cond b x y ≡ y
 if_false b x y e = rw e
 
-pub stops_at : {l : ℕ} {o : Option Lexeme} {x : Lexeme} → o ≡ Some x → Stops l (Some x) → Stops l o
+pub stops_at : {l : ℕ} {o : Option Terminal} {x : Terminal} → o ≡ Some x → Stops l (Some x) → Stops l o
 stops_at {l = l} e s = subst (Stops l) (sym e) s
 
-pub not_at : {o : Option Lexeme} (x y : Lexeme) → o ≡ Some x → is_in (Some x) y ≡ false → is_in o y ≡ false
+pub not_at : {o : Option Terminal} (x y : Terminal) → o ≡ Some x → is_in (Some x) y ≡ false → is_in o y ≡ false
 not_at x y e h = rw e h
 
-module _ (ls : List Lexeme) where
+module _ (ls : List Terminal) where
   -- an operand is read to its end at once
   operand_comes : {n m i j : ℕ} {e : Expr} → Reads (Reading.operand_of ls (reader_of ls n) i) e j (suc m) →
       ((d : ℕ) → Reading.operand_of ls (reader_of ls n) i ≡ Ok (found e j d) → 1 ≤ d) → Comes ls n (suc m) 0 i j e
@@ -52,14 +52,14 @@ module _ (ls : List Lexeme) where
       Reading.operand_of ls below at ≡ Reading.primary_by ls below at s
   primary_is below at s u e = ap (Reading.operand_by ls below at) u ∙ ap (Reading.primary_by ls below at) e
 
-  pub token_is : (below : Reader) (at : ℕ) (x : Lexeme) (s : Start) → At ls at x → unary x ≡ None → start_of (Some x) ≡ s →
+  pub token_is : (below : Reader) (at : ℕ) (x : Terminal) (s : Start) → At ls at x → unary x ≡ None → start_of (Some x) ≡ s →
       Reading.operand_of ls below at ≡ Reading.primary_by ls below at s
   token_is below at x s h u e = primary_is below at s (ap unary_of h ∙ u) (ap start_of h ∙ e)
 
   name_is : (below : Reader) (at : ℕ) → IsName ls at → Reading.operand_of ls below at ≡ Reading.primary_by ls below at start.Name
   name_is below at h = let n = named (slice_get ls at) h in primary_is below at start.Name n.no_operator n.start
 
-  pub unary_comes : {m i j : ℕ} {x : Lexeme} {op : UnOp} {e : Expr} → At ls i x → unary x ≡ Some op →
+  pub unary_comes : {m i j : ℕ} {x : Terminal} {op : UnOp} {e : Expr} → At ls i x → unary x ≡ Some op →
       Claim ls m 0 (i + 1) j e → Stops 0 (slice_get ls j) → Claim ls (suc m) 0 i j (expr.Unary i op e)
   unary_comes {i = i} {op = op} h u c s = record {
     comes = λ n le.
@@ -99,14 +99,13 @@ module _ (ls : List Lexeme) where
   }
 
   pub call_comes : {m i j : ℕ} {es : List Expr} → IsName ls i → At ls (i + 1) lex.OpenParen →
-      ((n : ℕ) → m ≤ n → Reads (Reading.exprs_of ls (reader_of ls n) (i + 2)) es j m) → At ls j lex.CloseParen →
-      Claim ls (suc m) 0 i (j + 1) (expr.Call i i es)
-  call_comes {i = i} {j = j} h p c k = record {
+      ((n : ℕ) → m ≤ n → Reads (Reading.args_of ls (reader_of ls n) (i + 1)) es j m) →
+      Claim ls (suc m) 0 i j (expr.Call i i es)
+  call_comes {i = i} h p c = record {
     comes = λ n le.
         let r = c n (omega arith) in
         node_comes r.depth r.fits
-        (name_is (reader_of ls n) i h ∙ ap (Reading.name_by ls (reader_of ls n) i) (in_is_true (slice_get ls (i + 1)) lex.OpenParen p) ∙ bind_at _ r.is
-        ∙ past_at ls j lex.CloseParen _ k);
+        (name_is (reader_of ls n) i h ∙ ap (Reading.name_by ls (reader_of ls n) i) (in_is_true (slice_get ls (i + 1)) lex.OpenParen p) ∙ bind_at _ r.is);
   }
 
   -- an expression in parentheses
@@ -131,7 +130,7 @@ module _ (ls : List Lexeme) where
   plus_two : (i : ℕ) → i + 2 ≡ i + 1 + 1
   plus_two i = omega arith
 
-  pub sign_comes : {m i j : ℕ} {e : Expr} (x : Lexeme) (s : Sign) → unary x ≡ None → start_of (Some x) ≡ start.Sign s → At ls i x →
+  pub sign_comes : {m i j : ℕ} {e : Expr} (x : Terminal) (s : Sign) → unary x ≡ None → start_of (Some x) ≡ start.Sign s → At ls i x →
       At ls (i + 1) lex.OpenParen → Claim ls m 11 (i + 2) j e → At ls j lex.CloseParen → Claim ls (suc m) 0 i (j + 1) (expr.Sign i s e)
   sign_comes {m = m} {i = i} {j = j} {e = e} x s u st h p c k = record {
     comes = λ n le.

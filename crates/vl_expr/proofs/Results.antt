@@ -1,8 +1,8 @@
 -- What follows where reading gave something.
 use Rattle.std.proofs.Common.{◌≡◌, ℕ, List, Option, Some, None, Bool, true, false, cond, Ok, Err, slice_get, refl, ap}
 use denote.Enum.Bare.{same_true, true_same}
-use Rattle.vl_tree.specs.contracts.lexemes.Lexeme.{the_type}
-use Rattle.vl_tree.specs.declared.lexemes.Lexeme.{Lexeme}
+use Rattle.vl_tree.specs.contracts.terminals.Terminal.{the_type}
+use Rattle.vl_tree.specs.declared.terminals.Terminal.{Terminal}
 use Rattle.vl_tree.specs.Places.{At}
 use Rattle.vl_expr.specs.Classes.{is_in, is_at}
 use Rattle.vl_expr.specs.Reading.{Reading, ◌>>=◌, past}
@@ -39,21 +39,21 @@ cond_ok true f g y e = was_true refl e
 cond_ok false f g y e = was_false refl e
 
 -- a reading behind a token gave something
-pub record Past {X : Type 0} (ls : List Lexeme) (at : ℕ) (x : Lexeme) (f : Reading X) (y : X) : Type 0 where
+pub record Past {X : Type 0} (ls : List Terminal) (at : ℕ) (x : Terminal) (f : Reading X) (y : X) : Type 0 where
   pub here : At ls at x
   pub rest : f ≡ Ok y
 
-pub is_in_true : (o : Option Lexeme) (x : Lexeme) → is_in o x ≡ true → o ≡ Some x
+pub is_in_true : (o : Option Terminal) (x : Terminal) → is_in o x ≡ true → o ≡ Some x
 is_in_true None x e = cc
 is_in_true (Some l) x e = ap Some (same_true the_type tt l x e)
 
-pub in_is_true : (o : Option Lexeme) (x : Lexeme) → o ≡ Some x → is_in o x ≡ true
+pub in_is_true : (o : Option Terminal) (x : Terminal) → o ≡ Some x → is_in o x ≡ true
 in_is_true o x e = rw e (true_same the_type x x refl)
 
-pub past_ok : {X : Type 0} (ls : List Lexeme) (at : ℕ) (x : Lexeme) (f : Reading X) (y : X) → past ls at x f ≡ Ok y → Past ls at x f y
+pub past_ok : {X : Type 0} (ls : List Terminal) (at : ℕ) (x : Terminal) (f : Reading X) (y : X) → past ls at x f ≡ Ok y → Past ls at x f y
 past_ok ls at x f y e =
     let t = test_ok (is_at ls at x) f at y e in
     record { here = is_in_true (slice_get ls at) x t.holds; rest = t.rest }
 
-pub past_at : {X : Type 0} (ls : List Lexeme) (at : ℕ) (x : Lexeme) (f : Reading X) → At ls at x → past ls at x f ≡ f
+pub past_at : {X : Type 0} (ls : List Terminal) (at : ℕ) (x : Terminal) (f : Reading X) → At ls at x → past ls at x f ≡ f
 past_at ls at x f h = rw (in_is_true (slice_get ls at) x h)

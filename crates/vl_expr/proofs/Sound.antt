@@ -1,8 +1,8 @@
 -- What is read is in the grammar, at each depth from its own on.
 use Rattle.std.proofs.Common.{◌≡◌, ◌≤◌, ◌==◌, ◌&&◌, ℕ, zero, suc, ◌+◌, max, List, [], ◌∷◌, Option, Some, None, Bool, true, false, Ok, slice_get, length, nat_le, refl, sym, subst, arith}
 use Rattle.std.proofs.lemmas.Bool.{eqb-true, and_parts, both_ways}
-use Rattle.vl_tree.specs.declared.lexemes.Lexeme.{Lexeme}
-use Rattle.vl_tree.specs.declared.lexemes.Lexeme.TheVariants as lex
+use Rattle.vl_tree.specs.declared.terminals.Terminal.{Terminal}
+use Rattle.vl_tree.specs.declared.terminals.Terminal.TheVariants as lex
 use Rattle.vl_tree.specs.declared.operators.Sign.TheVariants as sign
 use Rattle.vl_tree.specs.declared.operators.UnOp.{UnOp}
 use Rattle.vl_tree.specs.declared.operators.BinOp.{BinOp}
@@ -25,7 +25,7 @@ use Rattle.vl_expr.proofs.Stands.{Stands, SelectStands, ExprsStand, ArgsStand, S
 use Rattle.vl_expr.proofs.Tokens.{start_decimal, start_based, start_brace, start_signed, start_unsigned, start_name, between_colon, between_plus, between_minus, unary_at, binary_at, BinaryAt, part_is, up_is, down_is}
 
 -- what a reader of the parts reads stands where it was read
-pub record Sound (ls : List Lexeme) (below : Reader) : Type 0 where
+pub record Sound (ls : List Terminal) (below : Reader) : Type 0 where
   pub level : (l at : ℕ) (p : Found Expr) → below.level l at ≡ Ok p → Stands ls l at p
   pub select : (at : ℕ) (s : Found Select) → below.select at ≡ Ok s → SelectStands ls at s
 
@@ -33,20 +33,20 @@ plus_two : (i : ℕ) → i + 1 + 1 ≡ i + 2
 plus_two i = omega arith
 
 -- an expression in parentheses
-record Parens (ls : List Lexeme) (at : ℕ) (p : Found Expr) : Type 0 where
+record Parens (ls : List Terminal) (at : ℕ) (p : Found Expr) : Type 0 where
   inner : Found Expr
   opens : At ls at lex.OpenParen
   stands : Stands ls 11 (at + 1) inner
   closes : At ls inner.end lex.CloseParen
   is : p ≡ record { tree = inner.tree; end = inner.end + 1; depth = inner.depth }
 
-parens_made : {ls : List Lexeme} (at : ℕ) (p : Found Expr) → Parens ls at p → Stands ls 0 at (node p.tree p.end p.depth)
+parens_made : {ls : List Terminal} (at : ℕ) (p : Found Expr) → Parens ls at p → Stands ls 0 at (node p.tree p.end p.depth)
 parens_made {ls = ls} at p q =
     subst (λ r. Stands ls 0 at (node r.tree r.end r.depth)) (sym q.is)
     (node_stands ls 0 at (q.inner.end + 1) q.inner.depth q.inner.tree
     (λ m le. IsLevel.parens q.opens (q.stands.at_least m le) q.closes))
 
-signed_made : {ls : List Lexeme} (at : ℕ) (p : Found Expr) → At ls at lex.ToSigned → Parens ls (at + 1) p →
+signed_made : {ls : List Terminal} (at : ℕ) (p : Found Expr) → At ls at lex.ToSigned → Parens ls (at + 1) p →
     Stands ls 0 at (node (expr.Sign at sign.Signed p.tree) p.end p.depth)
 signed_made {ls = ls} at p t q =
     subst (λ r. Stands ls 0 at (node (expr.Sign at sign.Signed r.tree) r.end r.depth)) (sym q.is)
@@ -54,7 +54,7 @@ signed_made {ls = ls} at p t q =
     (λ m le. IsLevel.to_signed t q.opens
     (subst (λ k. IsLevel ls m 11 k q.inner.end q.inner.tree) (plus_two at) (q.stands.at_least m le)) q.closes))
 
-unsigned_made : {ls : List Lexeme} (at : ℕ) (p : Found Expr) → At ls at lex.ToUnsigned → Parens ls (at + 1) p →
+unsigned_made : {ls : List Terminal} (at : ℕ) (p : Found Expr) → At ls at lex.ToUnsigned → Parens ls (at + 1) p →
     Stands ls 0 at (node (expr.Sign at sign.Unsigned p.tree) p.end p.depth)
 unsigned_made {ls = ls} at p t q =
     subst (λ r. Stands ls 0 at (node (expr.Sign at sign.Unsigned r.tree) r.end r.depth)) (sym q.is)
@@ -63,7 +63,7 @@ unsigned_made {ls = ls} at p t q =
     (subst (λ k. IsLevel ls m 11 k q.inner.end q.inner.tree) (plus_two at) (q.stands.at_least m le)) q.closes))
 
 -- a replication, whose inner brace is closed before the outer one
-replicate_made : {ls : List Lexeme} (at : ℕ) (count : Found Expr) (all : Found (List Expr)) (p : Found Expr) →
+replicate_made : {ls : List Terminal} (at : ℕ) (count : Found Expr) (all : Found (List Expr)) (p : Found Expr) →
     At ls at lex.OpenBrace → Stands ls 11 (at + 1) count → At ls count.end lex.OpenBrace →
     ExprsStand ls (count.end + 1) all → At ls all.end lex.CloseBrace → (inner : Found (List Expr)) →
     ◌≡◌ {A = Found (List Expr)} (record { tree = all.tree; end = all.end + 1; depth = all.depth }) inner → At ls inner.end lex.CloseBrace →
@@ -78,7 +78,7 @@ replicate_made {ls = ls} at count all p opens h inner_opens parts closes inner i
     subst (Stands ls 0 at) e
     (subst (λ r. Stands ls 0 at (node (expr.Replicate at count.tree r.tree) (r.end + 1) (max count.depth r.depth))) is made)
 
-two_made : {ls : List Lexeme} {m i j k : ℕ} {s t : Select} → IsSelect ls m i j s → Reading.is_index s ≡ true →
+two_made : {ls : List Terminal} {m i j k : ℕ} {s t : Select} → IsSelect ls m i j s → Reading.is_index s ≡ true →
     IsSelect ls m j k t → IsSelects ls m i k (s ∷ t ∷ [])
 two_made (IsSelect.index a b c) is second = IsSelects.two_selects (IsSelect.index a b c) second
 two_made (IsSelect.part a b c d f) is second = absurd (both_ways _ (part_is _ _ _) is)
@@ -86,7 +86,7 @@ two_made (IsSelect.up a b c d f) is second = absurd (both_ways _ (up_is _ _ _) i
 two_made (IsSelect.down a b c d f) is second = absurd (both_ways _ (down_is _ _ _) is)
 
 -- two selects, the first of them a plain index
-two_stand : {ls : List Lexeme} (at : ℕ) (first second : Found Select) (q : Found (List Select)) → SelectStands ls at first →
+two_stand : {ls : List Terminal} (at : ℕ) (first second : Found Select) (q : Found (List Select)) → SelectStands ls at first →
     Reading.is_index first.tree ≡ true → SelectStands ls first.end second → added (single first) second ≡ q → SelectsStand ls at q
 two_stand {ls = ls} at first second q h is k e =
     subst (SelectsStand ls at) e (record {
@@ -94,7 +94,7 @@ two_stand {ls = ls} at first second q h is k e =
           (k.at_least m (max_right first.depth second.depth m le));
     })
 
-module _ (ls : List Lexeme) (below : Reader) (sound : Sound ls below) where
+module _ (ls : List Terminal) (below : Reader) (sound : Sound ls below) where
   exprs_from_stand : (turns i : ℕ) (all q : Found (List Expr)) → ExprsStand ls i all → Reading.exprs_from ls below turns all ≡ Ok q → ExprsStand ls i q
   exprs_from_stand zero i all q h e = subst (ExprsStand ls i) (ok_one e) h
   exprs_from_stand (suc turns) i all q h e =
@@ -228,16 +228,14 @@ module _ (ls : List Lexeme) (below : Reader) (sound : Sound ls below) where
         | was_false t r ↦ subst (SelectsStand ls at) (ok_one r) (record { at_least = λ m le. IsSelects.no_select })
       ]
 
-  name_stands : (at : ℕ) (p : Found Expr) (call : Bool) → is_at ls (at + 1) lex.OpenParen ≡ call → IsName ls at →
+  name_stands : (at : ℕ) (p : Found Expr) (call : Bool) → IsName ls at →
       Reading.name_by ls below at call ≡ Ok p → Stands ls 0 at p
-  name_stands at p true is n e =
+  name_stands at p true n e =
       let b = bind_ok _ _ p e in
-      let k = past_ok ls b.val.end lex.CloseParen _ p b.rest in
-      let all = exprs_stand (at + 2) b.val b.first in
-      subst (Stands ls 0 at) (ok_one k.rest)
-      (node_stands ls 0 at (b.val.end + 1) b.val.depth (expr.Call at at b.val.tree)
-      (λ m le. IsLevel.call n (is_in_true (slice_get ls (at + 1)) lex.OpenParen is) (all.at_least m le) k.here))
-  name_stands at p false is n e =
+      let all = args_stand (at + 1) b.val b.first in
+      subst (Stands ls 0 at) (ok_one b.rest)
+      (node_stands ls 0 at b.val.end b.val.depth (expr.Call at at b.val.tree) (λ m le. IsLevel.call n (all.at_least m le)))
+  name_stands at p false n e =
       let b = bind_ok _ _ p e in
       let all = selects_stand (at + 1) b.val b.first in
       subst (Stands ls 0 at) (ok_one b.rest)
@@ -256,7 +254,7 @@ module _ (ls : List Lexeme) (below : Reader) (sound : Sound ls below) where
   primary_stands at p start.Based is e =
       subst (Stands ls 0 at) (ok_one e)
       (node_stands ls 0 at (at + 1) 0 (expr.Based at None at) (λ m le. IsLevel.based (start_based _ is)))
-  primary_stands at p start.Name is e = name_stands at p (is_at ls (at + 1) lex.OpenParen) refl (start_name _ is) e
+  primary_stands at p start.Name is e = name_stands at p (is_at ls (at + 1) lex.OpenParen) (start_name _ is) e
   primary_stands at p (start.Sign sign.Signed) is e =
       let b = bind_ok _ _ p e in
       let q = paren_stands (at + 1) b.val b.first in
@@ -345,7 +343,7 @@ module _ (ls : List Lexeme) (below : Reader) (sound : Sound ls below) where
       let b = bind_ok _ _ p e in
       rest_stands n l at b.val p (l == 10) refl (level_stands n l at b.val b.first) b.rest
 
-pub reader_sound : (ls : List Lexeme) (n : ℕ) → Sound ls (Reading.reader_of ls n)
+pub reader_sound : (ls : List Terminal) (n : ℕ) → Sound ls (Reading.reader_of ls n)
 reader_sound ls zero = record { level = λ l at p e. cc; select = λ at s e. cc }
 reader_sound ls (suc n) = record {
   level = λ l at p e. level_stands ls (Reading.reader_of ls n) (reader_sound ls n) n l at p e;

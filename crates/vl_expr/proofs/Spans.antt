@@ -5,11 +5,11 @@ use Rattle.std.proofs.lemmas.List.Elements.{All-get_or}
 use Rattle.std.proofs.lemmas.Option.{slice_get-get_or}
 use Rattle.vl_pre.specs.Text.{Expanded, place_of}
 use Rattle.vl_pre.specs.Runs.{most}
-use Rattle.vl_tree.specs.declared.lexemes.Lexeme.{Lexeme}
+use Rattle.vl_tree.specs.declared.terminals.Terminal.{Terminal}
 use Rattle.vl_lex.specs.declared.kinds.Token.{Token}
 use Rattle.vl_lex.specs.Tokens.{Reads, AreTokens, AreSpans}
 use Rattle.vl_lex.proofs.Readings.{spans}
-use Rattle.vl_expr.specs.Lexemes.{lexemes_of}
+use Rattle.vl_expr.specs.Terminals.{terminals_of}
 use Rattle.vl_expr.specs.Refusals.{IsNoTree}
 use Rattle.xt_base.specs.declared.refusals.Place.{Place}
 
@@ -42,25 +42,25 @@ count_to text from to (t ∷ ts) are =
 pub count : (text : List ℕ) (ts : List Token) → AreTokens text ts → length ts ≤ length text
 count text ts are = let c = count_to text 0 (length text) ts are in omega arith
 
-pub lexeme_count : (text : List ℕ) (ts : List Token) → length (lexemes_of text ts) ≡ length ts
-lexeme_count text [] = refl
-lexeme_count text (t ∷ ts) = ap suc (lexeme_count text ts)
+pub terminal_count : (text : List ℕ) (ts : List Token) → length (terminals_of text ts) ≡ length ts
+terminal_count text [] = refl
+terminal_count text (t ∷ ts) = ap suc (terminal_count text ts)
 
 pub spans_along : {text bytes : List ℕ} {ts list : List Token} → bytes ≡ text → list ≡ ts → AreTokens text ts → AreSpans list (length bytes)
 spans_along {text = text} {ts = ts} b l are = rw (b, l) (spans text ts are)
 
-pub counted : {text bytes : List ℕ} {ts list : List Token} {F : Type 0} → bytes ≡ text → list ≡ ts → (r : Result (Vec Lexeme Global) F) →
-    IfOk r (λ all. all.items ≡ lexemes_of bytes list) → IfOk r (λ all. vec_len all ≡ length ts)
+pub counted : {text bytes : List ℕ} {ts list : List Token} {F : Type 0} → bytes ≡ text → list ≡ ts → (r : Result (Vec Terminal Global) F) →
+    IfOk r (λ all. all.items ≡ terminals_of bytes list) → IfOk r (λ all. vec_len all ≡ length ts)
 counted {bytes = bytes} {ts = ts} {list = list} b l (Ok all) is =
-    let many : length all.items ≡ length ts = ap length is ∙ lexeme_count bytes list ∙ ap length l in
+    let many : length all.items ≡ length ts = ap length is ∙ terminal_count bytes list ∙ ap length l in
     omega arith
 counted b l (Err e) is = tt
 
 pub sized : {text bytes : List ℕ} {ts list : List Token} {F : Type 0} → bytes ≡ text → list ≡ ts → AreTokens text ts → length bytes ≤ most →
-    (r : Result (Vec Lexeme Global) F) → IfOk r (λ all. all.items ≡ lexemes_of bytes list) → IfOk r (λ all. vec_len all < 2 ^ 31)
+    (r : Result (Vec Terminal Global) F) → IfOk r (λ all. all.items ≡ terminals_of bytes list) → IfOk r (λ all. vec_len all < 2 ^ 31)
 sized {text = text} {bytes = bytes} {ts = ts} {list = list} b l are h (Ok all) is =
     let c = count text ts are in
-    let many : length all.items ≡ length ts = ap length is ∙ lexeme_count bytes list ∙ ap length l in
+    let many : length all.items ≡ length ts = ap length is ∙ terminal_count bytes list ∙ ap length l in
     let len : length bytes ≡ length text = ap length b in
     omega arith
 sized b l are h (Err e) is = tt

@@ -6,7 +6,7 @@ use Rattle.xt_base.specs.declared.refusals.Fail.TheVariants as fails
 use Rattle.xt_base.specs.declared.refusals.Refusal.{Refusal}
 use Rattle.vl_pre.specs.Text.{Expanded}
 use Rattle.vl_lex.specs.declared.kinds.Token.{Token}
-use Rattle.vl_tree.specs.declared.lexemes.Lexeme.{Lexeme}
+use Rattle.vl_tree.specs.declared.terminals.Terminal.{Terminal}
 use Rattle.vl_tree.specs.declared.exprs.Expr.{Expr}
 use Rattle.vl_tree.specs.Expressions.{IsWholeExpr}
 use Rattle.vl_expr.specs.Reading.{whole_of}
@@ -15,7 +15,7 @@ use Rattle.vl_expr.proofs.Results.{ok_one}
 use Rattle.vl_expr.proofs.Comes.{found}
 use Rattle.vl_expr.proofs.Laws.{not_read, whole_sound, whole_complete}
 
-module _ (text : Expanded) (ts : List Token) (ls : List Lexeme) (n at : ℕ) where
+module _ (text : Expanded) (ts : List Token) (ls : List Terminal) (n at : ℕ) where
   pub told_found : (r : Result (Expr × ℕ) Fail) → Tells text ts r (whole_of ls n at) → IfOk r (λ answer. IsWholeExpr ls n at answer.1 answer.0)
   told_found (Ok (e, j)) t = whole_sound ls n at (found e j t.0) t.1
   told_found (Err f) t = tt

@@ -1,7 +1,7 @@
 -- One turn of the loops of the reader, and one step up the levels.
 use Rattle.std.proofs.Common.{◌≡◌, ◌≢◌, ◌<◌, ◌==◌, ℕ, zero, suc, ◌+◌, ◌-◌, List, Some, true, Result, Ok, Err, slice_get, refl, sym, ap, subst, ◌∙◌, arith}
-use Rattle.vl_tree.specs.declared.lexemes.Lexeme.{Lexeme}
-use Rattle.vl_tree.specs.declared.lexemes.Lexeme.TheVariants as lex
+use Rattle.vl_tree.specs.declared.terminals.Terminal.{Terminal}
+use Rattle.vl_tree.specs.declared.terminals.Terminal.TheVariants as lex
 use Rattle.vl_tree.specs.declared.operators.BinOp.{BinOp}
 use Rattle.vl_tree.specs.declared.exprs.Expr.{Expr}
 use Rattle.vl_expr.specs.declared.found.Found.{Found}
@@ -23,7 +23,7 @@ gives_along e r s h g = subst (Gives e) (sym h) g
 turns_left : (turn d : ℕ) → turn < d → d - turn ≡ suc (d - (turn + 1))
 turns_left turn d h = omega arith
 
-module _ (ls : List Lexeme) (below : Reader) where
+module _ (ls : List Terminal) (below : Reader) where
   tail_step : (n l from turn d : ℕ) (left : Found Expr) (op : BinOp) → turn < d → operator_of l (slice_get ls left.end) ≡ Some op →
       tail_of ls below n l from (d - turn) left ≡ (Reading.binary_of below n l from left op >>= tail_of ls below n l from (d - (turn + 1)))
   tail_step n l from turn d left op h o =

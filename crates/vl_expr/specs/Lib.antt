@@ -1,4 +1,4 @@
-pub mod Lexemes
+pub mod Terminals
 pub mod Classes
 pub mod Reading
 pub mod Refusals

@@ -1,7 +1,7 @@
 -- Reading an expression from left to right, as a function of the place where it begins. It is this project's own.
 use Rattle.std.specs.Prelude.{◌≡◌, ◌==◌, ◌&&◌, ℕ, zero, suc, ◌+◌, max, nat_le, List, [], ◌∷◌, ◌++◌, Option, Some, None, Bool, true, false, Result, Ok, Err, slice_get, length, if◌then◌else◌}
-use Rattle.vl_tree.specs.declared.lexemes.Lexeme.{Lexeme}
-use Rattle.vl_tree.specs.declared.lexemes.Lexeme.TheVariants as lex
+use Rattle.vl_tree.specs.declared.terminals.Terminal.{Terminal}
+use Rattle.vl_tree.specs.declared.terminals.Terminal.TheVariants as lex
 use Rattle.vl_tree.specs.declared.operators.UnOp.{UnOp}
 use Rattle.vl_tree.specs.declared.operators.BinOp.{BinOp}
 use Rattle.vl_tree.specs.declared.exprs.Expr.{Expr}
@@ -45,7 +45,7 @@ pub record Reader : Type 0 where
   pub select : ℕ → Reading (Found Select)
 
 -- behind this token
-abbrev pub past : {X : Type 0} → List Lexeme → ℕ → Lexeme → Reading X → Reading X
+abbrev pub past : {X : Type 0} → List Terminal → ℕ → Terminal → Reading X → Reading X
 past ls at x rest = if is_at ls at x then rest else Err at
 
 -- a tree that is one deeper than its parts
@@ -60,14 +60,14 @@ abbrev pub single : {X : Type 0} → Found X → Found (List X)
 single p = record { tree = p.tree ∷ []; end = p.end; depth = p.depth }
 
 -- { "," expr } behind expressions
-abbrev pub exprs_from : List Lexeme → Reader → ℕ → Found (List Expr) → Reading (Found (List Expr))
+abbrev pub exprs_from : List Terminal → Reader → ℕ → Found (List Expr) → Reading (Found (List Expr))
 exprs_from ls below zero all = Ok all
 exprs_from ls below (suc turns) all =
     if is_at ls all.end lex.Comma
     then (below.level 11 (all.end + 1) >>= λ p. exprs_from ls below turns (added all p))
     else Ok all
 
-abbrev pub exprs_of : List Lexeme → Reader → ℕ → Reading (Found (List Expr))
+abbrev pub exprs_of : List Terminal → Reader → ℕ → Reading (Found (List Expr))
 exprs_of ls below at = below.level 11 at >>= λ p. exprs_from ls below (length ls) (single p)
 
 abbrev pub index_layer : layer.Select-F Expr Select → Bool
@@ -85,7 +85,7 @@ range_select between.PlusColon at first second = select.Up at first second
 range_select between.MinusColon at first second = select.Down at first second
 
 -- the rest of a select that begins at a place, behind its first expression
-abbrev pub select_by : List Lexeme → Reader → ℕ → Found Expr → Option Between → Reading (Found Select)
+abbrev pub select_by : List Terminal → Reader → ℕ → Found Expr → Option Between → Reading (Found Select)
 select_by ls below at first None =
     past ls first.end lex.CloseBracket (Ok (node (select.Index at first.tree) (first.end + 1) first.depth))
 select_by ls below at first (Some kind) =
@@ -94,7 +94,7 @@ select_by ls below at first (Some kind) =
     (Ok (node (range_select kind at first.tree second.tree) (second.end + 1) (max first.depth second.depth)))
 
 -- select
-abbrev pub select_of : List Lexeme → Reader → ℕ → Reading (Found Select)
+abbrev pub select_of : List Terminal → Reader → ℕ → Reading (Found Select)
 select_of ls below at =
     past ls at lex.OpenBracket
     (below.level 11 (at + 1) >>= λ first. select_by ls below at first (between_of (slice_get ls first.end)))
@@ -104,29 +104,29 @@ abbrev pub no_selects : ℕ → Found (List Select)
 no_selects at = record { tree = []; end = at; depth = 0 }
 
 -- the second select, behind a first
-abbrev pub second_of : List Lexeme → Reader → Found Select → Reading (Found (List Select))
+abbrev pub second_of : List Terminal → Reader → Found Select → Reading (Found (List Select))
 second_of ls below first =
     if is_index first.tree && is_at ls first.end lex.OpenBracket
     then (below.select first.end >>= λ second. Ok (added (single first) second))
     else Ok (single first)
 
 -- { select }
-abbrev pub selects_of : List Lexeme → Reader → ℕ → Reading (Found (List Select))
+abbrev pub selects_of : List Terminal → Reader → ℕ → Reading (Found (List Select))
 selects_of ls below at =
     if is_at ls at lex.OpenBracket
     then (below.select at >>= λ first. second_of ls below first)
     else Ok (no_selects at)
 
 -- a part with a closing token behind it
-abbrev pub closed : {X : Type 0} → List Lexeme → Lexeme → Found X → Reading (Found X)
+abbrev pub closed : {X : Type 0} → List Terminal → Terminal → Found X → Reading (Found X)
 closed ls x p = past ls p.end x (Ok (record { tree = p.tree; end = p.end + 1; depth = p.depth }))
 
 -- no expressions between two parentheses
 abbrev pub no_args : ℕ → Found (List Expr)
 no_args at = record { tree = []; end = at + 2; depth = 0 }
 
--- the arguments of a task's enable: "(" [ expr { "," expr } ] ")"
-abbrev pub args_of : List Lexeme → Reader → ℕ → Reading (Found (List Expr))
+-- the arguments of a call or of a task's enable: "(" [ expr { "," expr } ] ")"
+abbrev pub args_of : List Terminal → Reader → ℕ → Reading (Found (List Expr))
 args_of ls below at =
     past ls at lex.OpenParen
     (if is_at ls (at + 1) lex.CloseParen
@@ -134,11 +134,11 @@ args_of ls below at =
     else (exprs_of ls below (at + 1) >>= λ all. closed ls lex.CloseParen all))
 
 -- "(" expr ")"
-abbrev pub paren_of : List Lexeme → Reader → ℕ → Reading (Found Expr)
+abbrev pub paren_of : List Terminal → Reader → ℕ → Reading (Found Expr)
 paren_of ls below at = past ls at lex.OpenParen (below.level 11 (at + 1) >>= λ p. closed ls lex.CloseParen p)
 
 -- "{" parts "}" "}" behind the count of a replication
-abbrev pub replicate_of : List Lexeme → Reader → ℕ → Found Expr → Reading (Found Expr)
+abbrev pub replicate_of : List Terminal → Reader → ℕ → Found Expr → Reading (Found Expr)
 replicate_of ls below at count =
     exprs_of ls below (count.end + 1) >>= λ all.
     closed ls lex.CloseBrace all >>= λ inner.
@@ -146,22 +146,20 @@ replicate_of ls below at count =
     (Ok (node (expr.Replicate at count.tree inner.tree) (inner.end + 1) (max count.depth inner.depth)))
 
 -- the other parts of a concatenation and "}", behind the first part
-abbrev pub concat_of : List Lexeme → Reader → ℕ → Found Expr → Reading (Found Expr)
+abbrev pub concat_of : List Terminal → Reader → ℕ → Found Expr → Reading (Found Expr)
 concat_of ls below at first =
     exprs_from ls below (length ls) (single first) >>= λ all.
     past ls all.end lex.CloseBrace (Ok (node (expr.Concat at all.tree) (all.end + 1) all.depth))
 
 -- "{" expr, and then a replication's parts or those of a concatenation
-abbrev pub braces_of : List Lexeme → Reader → ℕ → Reading (Found Expr)
+abbrev pub braces_of : List Terminal → Reader → ℕ → Reading (Found Expr)
 braces_of ls below at =
     below.level 11 (at + 1) >>= λ first.
     if is_at ls first.end lex.OpenBrace then replicate_of ls below at first else concat_of ls below at first
 
 -- a name with selects, or a call
-abbrev pub name_by : List Lexeme → Reader → ℕ → Bool → Reading (Found Expr)
-name_by ls below at true =
-    exprs_of ls below (at + 2) >>= λ all.
-    past ls all.end lex.CloseParen (Ok (node (expr.Call at at all.tree) (all.end + 1) all.depth))
+abbrev pub name_by : List Terminal → Reader → ℕ → Bool → Reading (Found Expr)
+name_by ls below at true = args_of ls below (at + 1) >>= λ all. Ok (node (expr.Call at at all.tree) all.end all.depth)
 name_by ls below at false = selects_of ls below (at + 1) >>= λ all. Ok (node (expr.Name at at all.tree) all.end all.depth)
 
 -- a decimal number, or one with a base behind its size
@@ -170,7 +168,7 @@ decimal_by at true = node (expr.Based at (Some at) (at + 1)) (at + 2) 0
 decimal_by at false = node (expr.Decimal at at) (at + 1) 0
 
 -- primary
-abbrev pub primary_by : List Lexeme → Reader → ℕ → Start → Reading (Found Expr)
+abbrev pub primary_by : List Terminal → Reader → ℕ → Start → Reading (Found Expr)
 primary_by ls below at start.Decimal = Ok (decimal_by at (is_at ls (at + 1) lex.Based))
 primary_by ls below at start.Based = Ok (node (expr.Based at None at) (at + 1) 0)
 primary_by ls below at start.Name = name_by ls below at (is_at ls (at + 1) lex.OpenParen)
@@ -180,17 +178,17 @@ primary_by ls below at start.Paren = paren_of ls below at >>= λ p. Ok (node p.t
 primary_by ls below at start.Brace = braces_of ls below at
 primary_by ls below at start.Nothing = Err at
 
-abbrev pub operand_by : List Lexeme → Reader → ℕ → Option UnOp → Reading (Found Expr)
+abbrev pub operand_by : List Terminal → Reader → ℕ → Option UnOp → Reading (Found Expr)
 operand_by ls below at None = primary_by ls below at (start_of (slice_get ls at))
 operand_by ls below at (Some op) =
     below.level 0 (at + 1) >>= λ p. Ok (node (expr.Unary at op p.tree) p.end p.depth)
 
 -- operand = { unary } primary
-abbrev pub operand_of : List Lexeme → Reader → ℕ → Reading (Found Expr)
+abbrev pub operand_of : List Terminal → Reader → ℕ → Reading (Found Expr)
 operand_of ls below at = operand_by ls below at (unary_of (slice_get ls at))
 
 -- "?" expr ":" expr behind a test, whose depth may be n
-abbrev pub choice_by : List Lexeme → Reader → ℕ → ℕ → Found Expr → Reading (Found Expr)
+abbrev pub choice_by : List Terminal → Reader → ℕ → ℕ → Found Expr → Reading (Found Expr)
 choice_by ls below n from test =
     if nat_le test.depth n
     then (below.level 11 (test.end + 1) >>= λ first.
@@ -200,7 +198,7 @@ choice_by ls below n from test =
     else Err test.end
 
 -- [ "?" expr ":" expr ]
-abbrev pub choice_of : List Lexeme → Reader → ℕ → ℕ → Found Expr → Reading (Found Expr)
+abbrev pub choice_of : List Terminal → Reader → ℕ → ℕ → Found Expr → Reading (Found Expr)
 choice_of ls below n from test = if is_at ls test.end lex.Question then choice_by ls below n from test else Ok test
 
 -- an operator and its right operand of layer l, behind its left operand, whose depth may be n
@@ -216,22 +214,22 @@ step_by below n l from more left None = Ok left
 step_by below n l from more left (Some op) = binary_of below n l from left op >>= more
 
 -- operators between operands of layer l, and their right operands, as many as there are
-abbrev pub tail_of : List Lexeme → Reader → ℕ → ℕ → ℕ → ℕ → Found Expr → Reading (Found Expr)
+abbrev pub tail_of : List Terminal → Reader → ℕ → ℕ → ℕ → ℕ → Found Expr → Reading (Found Expr)
 tail_of ls below n l from zero left = Ok left
 tail_of ls below n l from (suc turns) left =
     step_by below n l from (tail_of ls below n l from turns) left (operator_of l (slice_get ls left.end))
 
-abbrev pub rest_of : List Lexeme → Reader → ℕ → ℕ → ℕ → Found Expr → Bool → Reading (Found Expr)
+abbrev pub rest_of : List Terminal → Reader → ℕ → ℕ → ℕ → Found Expr → Bool → Reading (Found Expr)
 rest_of ls below n l from left true = choice_of ls below n from left
 rest_of ls below n l from left false = tail_of ls below n l from n left
 
 -- an expression of a level, whose parts are not deeper than n
-abbrev pub level_of : List Lexeme → Reader → ℕ → ℕ → ℕ → Reading (Found Expr)
+abbrev pub level_of : List Terminal → Reader → ℕ → ℕ → ℕ → Reading (Found Expr)
 level_of ls below n zero at = operand_of ls below at
 level_of ls below n (suc l) at = level_of ls below n l at >>= λ left. rest_of ls below n l at left (l == 10)
 
 -- what stands somewhere and is not deeper than n
-abbrev pub reader_of : List Lexeme → ℕ → Reader
+abbrev pub reader_of : List Terminal → ℕ → Reader
 reader_of ls zero = record { level = λ l at. Err at; select = λ at. Err at }
 reader_of ls (suc n) = record {
   level = λ l at. level_of ls (reader_of ls n) n l at;
@@ -239,9 +237,9 @@ reader_of ls (suc n) = record {
 }
 
 -- an expression that is not deeper than n
-abbrev pub expr_of : List Lexeme → ℕ → ℕ → Reading (Found Expr)
+abbrev pub expr_of : List Terminal → ℕ → ℕ → Reading (Found Expr)
 expr_of ls n at = (reader_of ls n).level 11 at
 
 -- the same, if it ends before one of the tokens ) ] } , ; : { +: -:
-abbrev pub whole_of : List Lexeme → ℕ → ℕ → Reading (Found Expr)
+abbrev pub whole_of : List Terminal → ℕ → ℕ → Reading (Found Expr)
 whole_of ls n at = expr_of ls n at >>= λ p. if ends_expr (slice_get ls p.end) then Ok p else Err p.end

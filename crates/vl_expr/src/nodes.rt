@@ -2,14 +2,14 @@
 ghost use Rattle.std.specs.Prelude.{◌≡◌, ◌<◌, ◌≤◌, ◌^◌, ◌-◌, ◌+◌, max, length, IfOk};
 ghost use Rattle.vl_tree.specs.declared.exprs.Expr.TheVariants as expr;
 ghost use Rattle.vl_tree.specs.declared.exprs.Select.TheVariants as select;
-ghost use Rattle.vl_tree.specs.declared.lexemes.Lexeme.{Lexeme};
+ghost use Rattle.vl_tree.specs.declared.terminals.Terminal.{Terminal};
 ghost use Rattle.vl_expr.specs.Reading.{Makes, Gives, closed, node, added, single, no_selects, no_args, range_select, decimal_by, is_index};
 
 use crate::classes::{Between, expect};
 use crate::found::{Found, ParseError};
 use sqlite_items::{Boxed, Items};
 use std::alloc::Global;
-use vl_tree::{BinOp, Expr, Lexeme, Select, Sign, UnOp};
+use vl_tree::{BinOp, Expr, Select, Sign, Terminal, UnOp};
 
 fn boxed(alloc: Global, tree: Expr) -> Result<Boxed<Expr>, ParseError>
     ensures { Makes result tree }
@@ -195,13 +195,12 @@ pub fn name_node(at: u32, selects: Found<Items<Select>>) -> Found<Expr>
     )
 }
 
-/// A call, behind whose arguments `)` stands.
+/// A call with its arguments.
 pub fn call_node(at: u32, args: Found<Items<Expr>>) -> Found<Expr>
-    requires depth { args.depth < 2 ^ 32 - 1 }
-    requires room { args.end < 2 ^ 32 - 1 }
-    ensures { result ≡ node (expr.Call at at args.tree) (args.end + 1) args.depth }
+    requires { args.depth < 2 ^ 32 - 1 }
+    ensures { result ≡ node (expr.Call at at args.tree) args.end args.depth }
 {
-    let end = args.end + 1;
+    let end = args.end;
     let depth = args.depth;
     let args = args.tree;
     node(Expr::Call { at, name: at, args }, end, depth)
@@ -221,16 +220,16 @@ pub fn concat_node(at: u32, parts: Found<Items<Expr>>) -> Found<Expr>
 
 /// A part with its closing token.
 pub fn closed<T: Drop>(
-    lexemes: &[Lexeme],
-    lexeme: Lexeme,
+    terminals: &[Terminal],
+    terminal: Terminal,
     part: Found<T>,
 ) -> Result<Found<T>, ParseError>
-    requires { length lexemes.now < 2 ^ 32 - 2 }
-    ensures exact { Gives result (closed lexemes.now lexeme part) }
+    requires { length terminals.now < 2 ^ 32 - 2 }
+    ensures exact { Gives result (closed terminals.now terminal part) }
     ensures fits { IfOk result (λ p. p.depth ≡ part.depth) }
-    ensures within { IfOk result (λ p. p.end ≤ length lexemes.now) }
+    ensures within { IfOk result (λ p. p.end ≤ length terminals.now) }
 {
-    expect(lexemes, part.end, lexeme)?;
+    expect(terminals, part.end, terminal)?;
     Ok(Found {
         end: part.end + 1,
         ..part

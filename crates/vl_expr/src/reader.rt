@@ -3,7 +3,7 @@
 //! A function takes the depth that what stands inside may have, and the place where it begins. The levels are 0 for an
 //! operand, 1 to 10 for the layers of binary operators from the tightest on, and 11 for an expression.
 ghost use Rattle.std.specs.Prelude.{◌≡◌, ℕ, MatchResult, ◌<◌, ◌≤◌, ◌^◌, ◌-◌, ◌+◌, ◌==◌, length, slice_get, IfOk};
-ghost use Rattle.vl_tree.specs.declared.lexemes.Lexeme.TheVariants as lex;
+ghost use Rattle.vl_tree.specs.declared.terminals.Terminal.TheVariants as lex;
 ghost use Rattle.vl_expr.specs.Classes.{is_at, start_of, between_of};
 ghost use Rattle.vl_expr.specs.Reading.{Gives, reader_of, level_of, rest_of, tail_of, choice_of, binary_of, operand_of, primary_by, name_by, paren_of, args_of, exprs_of, exprs_from, braces_of, replicate_of, concat_of, selects_of, second_of, select_by, expr_of};
 ghost use Rattle.vl_tree.specs.declared.exprs.Expr.{Expr};
@@ -18,26 +18,26 @@ use crate::nodes::{
 };
 use sqlite_items::Items;
 use std::alloc::Global;
-use vl_tree::{BinOp, Expr, Lexeme, Select};
+use vl_tree::{BinOp, Expr, Select, Terminal};
 
 /// What stands one deeper: an expression of a level.
 #[cycle(expr)]
 fn below(
     alloc: Global,
-    lexemes: &[Lexeme],
+    terminals: &[Terminal],
     depth: u32,
     level: u32,
     at: u32,
 ) -> Result<Found<Expr>, ParseError>
     requires level { level ≤ 11 }
-    requires room { length lexemes.now < 2 ^ 32 - 2 }
-    ensures exact { Gives result ((reader_of lexemes.now depth).level level at) }
+    requires room { length terminals.now < 2 ^ 32 - 2 }
+    ensures exact { Gives result ((reader_of terminals.now depth).level level at) }
     ensures fits { IfOk result (λ p. p.depth ≤ depth) }
 {
     if depth == 0 {
         Err(ParseError::NoTree { at })
     } else {
-        level_at(alloc, lexemes, depth - 1, level, at)
+        level_at(alloc, terminals, depth - 1, level, at)
     }
 }
 
@@ -45,46 +45,46 @@ fn below(
 #[cycle(expr)]
 fn level_at(
     alloc: Global,
-    lexemes: &[Lexeme],
+    terminals: &[Terminal],
     depth: u32,
     level: u32,
     at: u32,
 ) -> Result<Found<Expr>, ParseError>
     requires level { level ≤ 11 }
-    requires room { length lexemes.now < 2 ^ 32 - 2 }
+    requires room { length terminals.now < 2 ^ 32 - 2 }
     requires depth { depth < 2 ^ 32 - 1 }
-    ensures exact { Gives result (level_of lexemes.now (reader_of lexemes.now depth) depth level at) }
+    ensures exact { Gives result (level_of terminals.now (reader_of terminals.now depth) depth level at) }
     ensures fits { IfOk result (λ p. p.depth ≤ depth + 1) }
 {
     if level == 0 {
-        return operand_at(alloc, lexemes, depth, at);
+        return operand_at(alloc, terminals, depth, at);
     }
-    let left = level_at(alloc, lexemes, depth, level - 1, at)?;
-    rest_at(alloc, lexemes, depth, level - 1, at, left)
+    let left = level_at(alloc, terminals, depth, level - 1, at)?;
+    rest_at(alloc, terminals, depth, level - 1, at, left)
 }
 
 /// What stands behind an expression of a level and makes one of the next.
 #[cycle(expr)]
 fn rest_at(
     alloc: Global,
-    lexemes: &[Lexeme],
+    terminals: &[Terminal],
     depth: u32,
     level: u32,
     from: u32,
     left: Found<Expr>,
 ) -> Result<Found<Expr>, ParseError>
     requires level { level ≤ 10 }
-    requires room { length lexemes.now < 2 ^ 32 - 2 }
+    requires room { length terminals.now < 2 ^ 32 - 2 }
     requires depth { depth < 2 ^ 32 - 1 }
     requires left { left.depth ≤ depth + 1 }
     ensures exact { Gives result
-        (rest_of lexemes.now (reader_of lexemes.now depth) depth level from left (level == 10)) }
+        (rest_of terminals.now (reader_of terminals.now depth) depth level from left (level == 10)) }
     ensures fits { IfOk result (λ p. p.depth ≤ depth + 1) }
 {
     if level == 10 {
-        choice_at(alloc, lexemes, depth, from, left)
+        choice_at(alloc, terminals, depth, from, left)
     } else {
-        tail_at(alloc, lexemes, depth, level, from, left)
+        tail_at(alloc, terminals, depth, level, from, left)
     }
 }
 
@@ -92,26 +92,26 @@ fn rest_at(
 #[cycle(expr)]
 fn choice_at(
     alloc: Global,
-    lexemes: &[Lexeme],
+    terminals: &[Terminal],
     depth: u32,
     from: u32,
     test: Found<Expr>,
 ) -> Result<Found<Expr>, ParseError>
-    requires room { length lexemes.now < 2 ^ 32 - 2 }
+    requires room { length terminals.now < 2 ^ 32 - 2 }
     requires depth { depth < 2 ^ 32 - 1 }
     requires test { test.depth ≤ depth + 1 }
-    ensures exact { Gives result (choice_of lexemes.now (reader_of lexemes.now depth) depth from test) }
+    ensures exact { Gives result (choice_of terminals.now (reader_of terminals.now depth) depth from test) }
     ensures fits { IfOk result (λ p. p.depth ≤ depth + 1) }
 {
-    if !is_at(lexemes, test.end, Lexeme::Question) {
+    if !is_at(terminals, test.end, Terminal::Question) {
         return Ok(test);
     }
     if test.depth > depth {
         return Err(ParseError::NoTree { at: test.end });
     }
-    let first = below(alloc, lexemes, depth, 11, test.end + 1)?;
-    expect(lexemes, first.end, Lexeme::Colon)?;
-    let second = below(alloc, lexemes, depth, 11, first.end + 1)?;
+    let first = below(alloc, terminals, depth, 11, test.end + 1)?;
+    expect(terminals, first.end, Terminal::Colon)?;
+    let second = below(alloc, terminals, depth, 11, first.end + 1)?;
     choice_node(alloc, from, test, first, second)
 }
 
@@ -119,25 +119,25 @@ fn choice_at(
 #[cycle(expr)]
 fn tail_at(
     alloc: Global,
-    lexemes: &[Lexeme],
+    terminals: &[Terminal],
     depth: u32,
     level: u32,
     from: u32,
     first: Found<Expr>,
 ) -> Result<Found<Expr>, ParseError>
     requires level { level ≤ 9 }
-    requires room { length lexemes.now < 2 ^ 32 - 2 }
+    requires room { length terminals.now < 2 ^ 32 - 2 }
     requires depth { depth < 2 ^ 32 - 1 }
     requires first { first.depth ≤ depth + 1 }
     ensures exact { Gives result
-        (tail_of lexemes.now (reader_of lexemes.now depth) depth level from depth first) }
+        (tail_of terminals.now (reader_of terminals.now depth) depth level from depth first) }
     ensures fits { IfOk result (λ p. p.depth ≤ depth + 1) }
 {
     let mut left = first;
     'turns: for turn in 0..depth {
-        match operator_at(lexemes, level, left.end) {
+        match operator_at(terminals, level, left.end) {
             None => break,
-            Some(op) => left = binary_at(alloc, lexemes, depth, level, from, left, op)?,
+            Some(op) => left = binary_at(alloc, terminals, depth, level, from, left, op)?,
         }
     }
     Ok(left)
@@ -147,7 +147,7 @@ fn tail_at(
 #[cycle(expr)]
 fn binary_at(
     alloc: Global,
-    lexemes: &[Lexeme],
+    terminals: &[Terminal],
     depth: u32,
     level: u32,
     from: u32,
@@ -155,16 +155,16 @@ fn binary_at(
     op: BinOp,
 ) -> Result<Found<Expr>, ParseError>
     requires level { level ≤ 9 }
-    requires room { length lexemes.now < 2 ^ 32 - 2 }
+    requires room { length terminals.now < 2 ^ 32 - 2 }
     requires depth { depth < 2 ^ 32 - 1 }
-    requires left { left.end < length lexemes.now }
-    ensures exact { Gives result (binary_of (reader_of lexemes.now depth) depth level from left op) }
+    requires left { left.end < length terminals.now }
+    ensures exact { Gives result (binary_of (reader_of terminals.now depth) depth level from left op) }
     ensures fits { IfOk result (λ p. p.depth ≤ depth + 1) }
 {
     if left.depth > depth {
         return Err(ParseError::NoTree { at: left.end });
     }
-    let right = below(alloc, lexemes, depth, level, left.end + 1)?;
+    let right = below(alloc, terminals, depth, level, left.end + 1)?;
     binary_node(alloc, from, op, left, right)
 }
 
@@ -172,21 +172,21 @@ fn binary_at(
 #[cycle(expr)]
 fn operand_at(
     alloc: Global,
-    lexemes: &[Lexeme],
+    terminals: &[Terminal],
     depth: u32,
     at: u32,
 ) -> Result<Found<Expr>, ParseError>
-    requires room { length lexemes.now < 2 ^ 32 - 2 }
+    requires room { length terminals.now < 2 ^ 32 - 2 }
     requires depth { depth < 2 ^ 32 - 1 }
-    ensures exact { Gives result (operand_of lexemes.now (reader_of lexemes.now depth) at) }
+    ensures exact { Gives result (operand_of terminals.now (reader_of terminals.now depth) at) }
     ensures fits { IfOk result (λ p. p.depth ≤ depth + 1) }
 {
-    match unary_at(lexemes, at) {
+    match unary_at(terminals, at) {
         Some(op) => {
-            let operand = below(alloc, lexemes, depth, 0, at + 1)?;
+            let operand = below(alloc, terminals, depth, 0, at + 1)?;
             unary_node(alloc, at, op, operand)
         }
-        None => primary_at(alloc, lexemes, depth, at),
+        None => primary_at(alloc, terminals, depth, at),
     }
 }
 
@@ -194,54 +194,53 @@ fn operand_at(
 #[cycle(expr)]
 fn primary_at(
     alloc: Global,
-    lexemes: &[Lexeme],
+    terminals: &[Terminal],
     depth: u32,
     at: u32,
 ) -> Result<Found<Expr>, ParseError>
-    requires room { length lexemes.now < 2 ^ 32 - 2 }
+    requires room { length terminals.now < 2 ^ 32 - 2 }
     requires depth { depth < 2 ^ 32 - 1 }
     ensures exact { Gives result
-        (primary_by lexemes.now (reader_of lexemes.now depth) at (start_of (slice_get lexemes.now at))) }
+        (primary_by terminals.now (reader_of terminals.now depth) at (start_of (slice_get terminals.now at))) }
     ensures fits { IfOk result (λ p. p.depth ≤ depth + 1) }
 {
-    match start_at(lexemes, at) {
-        Start::Decimal => Ok(decimal(at, is_at(lexemes, at + 1, Lexeme::Based))),
+    match start_at(terminals, at) {
+        Start::Decimal => Ok(decimal(at, is_at(terminals, at + 1, Terminal::Based))),
         Start::Based => Ok(based(at)),
-        Start::Name => name_at(alloc, lexemes, depth, at),
+        Start::Name => name_at(alloc, terminals, depth, at),
         Start::Sign(sign) => {
-            let value = paren_at(alloc, lexemes, depth, at + 1)?;
+            let value = paren_at(alloc, terminals, depth, at + 1)?;
             sign_node(alloc, at, sign, value)
         }
         Start::Paren => {
-            let inner = paren_at(alloc, lexemes, depth, at)?;
+            let inner = paren_at(alloc, terminals, depth, at)?;
             Ok(node(inner.tree, inner.end, inner.depth))
         }
-        Start::Brace => braces_at(alloc, lexemes, depth, at),
+        Start::Brace => braces_at(alloc, terminals, depth, at),
         Start::Nothing => Err(ParseError::NoTree { at }),
     }
 }
 
-/// A call, which has an argument, or a name with its selects.
+/// A call, or a name with its selects.
 #[cycle(expr)]
 fn name_at(
     alloc: Global,
-    lexemes: &[Lexeme],
+    terminals: &[Terminal],
     depth: u32,
     at: u32,
 ) -> Result<Found<Expr>, ParseError>
-    requires room { length lexemes.now < 2 ^ 32 - 2 }
+    requires room { length terminals.now < 2 ^ 32 - 2 }
     requires depth { depth < 2 ^ 32 - 1 }
-    requires place { at < length lexemes.now }
+    requires place { at < length terminals.now }
     ensures exact { Gives result
-        (name_by lexemes.now (reader_of lexemes.now depth) at (is_at lexemes.now (at + 1) lex.OpenParen)) }
+        (name_by terminals.now (reader_of terminals.now depth) at (is_at terminals.now (at + 1) lex.OpenParen)) }
     ensures fits { IfOk result (λ p. p.depth ≤ depth + 1) }
 {
-    if is_at(lexemes, at + 1, Lexeme::OpenParen) {
-        let args = exprs_at(alloc, lexemes, depth, at + 2)?;
-        expect(lexemes, args.end, Lexeme::CloseParen)?;
+    if is_at(terminals, at + 1, Terminal::OpenParen) {
+        let args = args_at(alloc, terminals, depth, at + 1)?;
         Ok(call_node(at, args))
     } else {
-        let selects = selects_at(alloc, lexemes, depth, at + 1)?;
+        let selects = selects_at(alloc, terminals, depth, at + 1)?;
         Ok(name_node(at, selects))
     }
 }
@@ -250,76 +249,77 @@ fn name_at(
 #[cycle(expr)]
 fn paren_at(
     alloc: Global,
-    lexemes: &[Lexeme],
+    terminals: &[Terminal],
     depth: u32,
     at: u32,
 ) -> Result<Found<Expr>, ParseError>
-    requires room { length lexemes.now < 2 ^ 32 - 2 }
-    ensures exact { Gives result (paren_of lexemes.now (reader_of lexemes.now depth) at) }
+    requires room { length terminals.now < 2 ^ 32 - 2 }
+    ensures exact { Gives result (paren_of terminals.now (reader_of terminals.now depth) at) }
     ensures fits { IfOk result (λ p. p.depth ≤ depth) }
 {
-    expect(lexemes, at, Lexeme::OpenParen)?;
-    let inner = below(alloc, lexemes, depth, 11, at + 1)?;
-    closed(lexemes, Lexeme::CloseParen, inner)
+    expect(terminals, at, Terminal::OpenParen)?;
+    let inner = below(alloc, terminals, depth, 11, at + 1)?;
+    closed(terminals, Terminal::CloseParen, inner)
 }
 
-/// The arguments of a task's enable, in parentheses: expressions with commas between them, or none, none of them deeper
-/// than `depth`.
+/// The arguments of a call or of a task's enable, in parentheses: expressions with commas between them, or none, none of them
+/// deeper than `depth`.
+#[cycle(expr)]
 pub fn args_at(
     alloc: Global,
-    lexemes: &[Lexeme],
+    terminals: &[Terminal],
     depth: u32,
     at: u32,
 ) -> Result<Found<Items<Expr>>, ParseError>
-    requires room { length lexemes.now < 2 ^ 32 - 2 }
-    ensures exact { Gives result (args_of lexemes.now (reader_of lexemes.now depth) at) }
+    requires room { length terminals.now < 2 ^ 32 - 2 }
+    ensures exact { Gives result (args_of terminals.now (reader_of terminals.now depth) at) }
     ensures fits { IfOk result (λ p. p.depth ≤ depth) }
 {
-    expect(lexemes, at, Lexeme::OpenParen)?;
-    if is_at(lexemes, at + 1, Lexeme::CloseParen) {
+    expect(terminals, at, Terminal::OpenParen)?;
+    if is_at(terminals, at + 1, Terminal::CloseParen) {
         return Ok(no_args(alloc, at));
     }
-    let all = exprs_at(alloc, lexemes, depth, at + 1)?;
-    closed(lexemes, Lexeme::CloseParen, all)
+    let all = exprs_at(alloc, terminals, depth, at + 1)?;
+    closed(terminals, Terminal::CloseParen, all)
 }
 
 /// Expressions with commas between them, none of them deeper than `depth`.
 #[cycle(expr)]
 pub fn exprs_at(
     alloc: Global,
-    lexemes: &[Lexeme],
+    terminals: &[Terminal],
     depth: u32,
     at: u32,
 ) -> Result<Found<Items<Expr>>, ParseError>
-    requires room { length lexemes.now < 2 ^ 32 - 2 }
-    ensures exact { Gives result (exprs_of lexemes.now (reader_of lexemes.now depth) at) }
+    requires room { length terminals.now < 2 ^ 32 - 2 }
+    ensures exact { Gives result (exprs_of terminals.now (reader_of terminals.now depth) at) }
     ensures fits { IfOk result (λ p. p.depth ≤ depth) }
 {
-    let first = below(alloc, lexemes, depth, 11, at)?;
+    let first = below(alloc, terminals, depth, 11, at)?;
     let all = single(alloc, first)?;
-    exprs_behind(alloc, lexemes, depth, all)
+    exprs_behind(alloc, terminals, depth, all)
 }
 
 /// The other expressions of a list, each behind a comma.
 #[cycle(expr)]
 fn exprs_behind(
     alloc: Global,
-    lexemes: &[Lexeme],
+    terminals: &[Terminal],
     depth: u32,
     first: Found<Items<Expr>>,
 ) -> Result<Found<Items<Expr>>, ParseError>
-    requires room { length lexemes.now < 2 ^ 32 - 2 }
+    requires room { length terminals.now < 2 ^ 32 - 2 }
     requires first { first.depth ≤ depth }
     ensures exact { Gives result
-        (exprs_from lexemes.now (reader_of lexemes.now depth) (length lexemes.now) first) }
+        (exprs_from terminals.now (reader_of terminals.now depth) (length terminals.now) first) }
     ensures fits { IfOk result (λ p. p.depth ≤ depth) }
 {
     let mut all = first;
-    'turns: for turn in 0..lexemes.len() {
-        if !is_at(lexemes, all.end, Lexeme::Comma) {
+    'turns: for turn in 0..terminals.len() {
+        if !is_at(terminals, all.end, Terminal::Comma) {
             break;
         }
-        let next = below(alloc, lexemes, depth, 11, all.end + 1)?;
+        let next = below(alloc, terminals, depth, 11, all.end + 1)?;
         all = added(all, next)?;
     }
     Ok(all)
@@ -329,21 +329,21 @@ fn exprs_behind(
 #[cycle(expr)]
 fn braces_at(
     alloc: Global,
-    lexemes: &[Lexeme],
+    terminals: &[Terminal],
     depth: u32,
     at: u32,
 ) -> Result<Found<Expr>, ParseError>
-    requires room { length lexemes.now < 2 ^ 32 - 2 }
+    requires room { length terminals.now < 2 ^ 32 - 2 }
     requires depth { depth < 2 ^ 32 - 1 }
-    requires place { at < length lexemes.now }
-    ensures exact { Gives result (braces_of lexemes.now (reader_of lexemes.now depth) at) }
+    requires place { at < length terminals.now }
+    ensures exact { Gives result (braces_of terminals.now (reader_of terminals.now depth) at) }
     ensures fits { IfOk result (λ p. p.depth ≤ depth + 1) }
 {
-    let first = below(alloc, lexemes, depth, 11, at + 1)?;
-    if is_at(lexemes, first.end, Lexeme::OpenBrace) {
-        replicate_at(alloc, lexemes, depth, at, first)
+    let first = below(alloc, terminals, depth, 11, at + 1)?;
+    if is_at(terminals, first.end, Terminal::OpenBrace) {
+        replicate_at(alloc, terminals, depth, at, first)
     } else {
-        concat_at(alloc, lexemes, depth, at, first)
+        concat_at(alloc, terminals, depth, at, first)
     }
 }
 
@@ -351,21 +351,21 @@ fn braces_at(
 #[cycle(expr)]
 fn replicate_at(
     alloc: Global,
-    lexemes: &[Lexeme],
+    terminals: &[Terminal],
     depth: u32,
     at: u32,
     count: Found<Expr>,
 ) -> Result<Found<Expr>, ParseError>
-    requires room { length lexemes.now < 2 ^ 32 - 2 }
+    requires room { length terminals.now < 2 ^ 32 - 2 }
     requires depth { depth < 2 ^ 32 - 1 }
     requires count { count.depth ≤ depth }
-    requires place { count.end < length lexemes.now }
-    ensures exact { Gives result (replicate_of lexemes.now (reader_of lexemes.now depth) at count) }
+    requires place { count.end < length terminals.now }
+    ensures exact { Gives result (replicate_of terminals.now (reader_of terminals.now depth) at count) }
     ensures fits { IfOk result (λ p. p.depth ≤ depth + 1) }
 {
-    let parts = exprs_at(alloc, lexemes, depth, count.end + 1)?;
-    let inner = closed(lexemes, Lexeme::CloseBrace, parts)?;
-    expect(lexemes, inner.end, Lexeme::CloseBrace)?;
+    let parts = exprs_at(alloc, terminals, depth, count.end + 1)?;
+    let inner = closed(terminals, Terminal::CloseBrace, parts)?;
+    expect(terminals, inner.end, Terminal::CloseBrace)?;
     replicate_node(alloc, at, count, inner)
 }
 
@@ -373,20 +373,20 @@ fn replicate_at(
 #[cycle(expr)]
 fn concat_at(
     alloc: Global,
-    lexemes: &[Lexeme],
+    terminals: &[Terminal],
     depth: u32,
     at: u32,
     first: Found<Expr>,
 ) -> Result<Found<Expr>, ParseError>
-    requires room { length lexemes.now < 2 ^ 32 - 2 }
+    requires room { length terminals.now < 2 ^ 32 - 2 }
     requires depth { depth < 2 ^ 32 - 1 }
     requires first { first.depth ≤ depth }
-    ensures exact { Gives result (concat_of lexemes.now (reader_of lexemes.now depth) at first) }
+    ensures exact { Gives result (concat_of terminals.now (reader_of terminals.now depth) at first) }
     ensures fits { IfOk result (λ p. p.depth ≤ depth + 1) }
 {
     let all = single(alloc, first)?;
-    let parts = exprs_behind(alloc, lexemes, depth, all)?;
-    expect(lexemes, parts.end, Lexeme::CloseBrace)?;
+    let parts = exprs_behind(alloc, terminals, depth, all)?;
+    expect(terminals, parts.end, Terminal::CloseBrace)?;
     Ok(concat_node(at, parts))
 }
 
@@ -394,41 +394,41 @@ fn concat_at(
 #[cycle(expr)]
 pub fn selects_at(
     alloc: Global,
-    lexemes: &[Lexeme],
+    terminals: &[Terminal],
     depth: u32,
     at: u32,
 ) -> Result<Found<Items<Select>>, ParseError>
-    requires room { length lexemes.now < 2 ^ 32 - 2 }
-    ensures exact { Gives result (selects_of lexemes.now (reader_of lexemes.now depth) at) }
+    requires room { length terminals.now < 2 ^ 32 - 2 }
+    ensures exact { Gives result (selects_of terminals.now (reader_of terminals.now depth) at) }
     ensures fits { IfOk result (λ p. p.depth ≤ depth) }
 {
-    if !is_at(lexemes, at, Lexeme::OpenBracket) {
+    if !is_at(terminals, at, Terminal::OpenBracket) {
         return Ok(no_selects(alloc, at));
     }
-    let first = select_at(alloc, lexemes, depth, at)?;
-    second_at(alloc, lexemes, depth, first)
+    let first = select_at(alloc, terminals, depth, at)?;
+    second_at(alloc, terminals, depth, first)
 }
 
 /// A second select behind an index, or none.
 #[cycle(expr)]
 fn second_at(
     alloc: Global,
-    lexemes: &[Lexeme],
+    terminals: &[Terminal],
     depth: u32,
     first: Found<Select>,
 ) -> Result<Found<Items<Select>>, ParseError>
-    requires room { length lexemes.now < 2 ^ 32 - 2 }
+    requires room { length terminals.now < 2 ^ 32 - 2 }
     requires first { first.depth ≤ depth }
-    ensures exact { Gives result (second_of lexemes.now (reader_of lexemes.now depth) first) }
+    ensures exact { Gives result (second_of terminals.now (reader_of terminals.now depth) first) }
     ensures fits { IfOk result (λ p. p.depth ≤ depth) }
 {
     let end = first.end;
-    let more = is_index(&first.tree) && is_at(lexemes, end, Lexeme::OpenBracket);
+    let more = is_index(&first.tree) && is_at(terminals, end, Terminal::OpenBracket);
     let list = single(alloc, first)?;
     if !more {
         return Ok(list);
     }
-    let second = select_at(alloc, lexemes, depth, end)?;
+    let second = select_at(alloc, terminals, depth, end)?;
     added(list, second)
 }
 
@@ -436,46 +436,46 @@ fn second_at(
 #[cycle(expr)]
 fn select_at(
     alloc: Global,
-    lexemes: &[Lexeme],
+    terminals: &[Terminal],
     depth: u32,
     at: u32,
 ) -> Result<Found<Select>, ParseError>
-    requires room { length lexemes.now < 2 ^ 32 - 2 }
-    ensures exact { Gives result ((reader_of lexemes.now depth).select at) }
+    requires room { length terminals.now < 2 ^ 32 - 2 }
+    ensures exact { Gives result ((reader_of terminals.now depth).select at) }
     ensures fits { IfOk result (λ p. p.depth ≤ depth) }
 {
     if depth == 0 {
         return Err(ParseError::NoTree { at });
     }
-    expect(lexemes, at, Lexeme::OpenBracket)?;
-    let first = below(alloc, lexemes, depth - 1, 11, at + 1)?;
-    range_at(alloc, lexemes, depth - 1, at, first)
+    expect(terminals, at, Terminal::OpenBracket)?;
+    let first = below(alloc, terminals, depth - 1, 11, at + 1)?;
+    range_at(alloc, terminals, depth - 1, at, first)
 }
 
 /// The rest of a select behind its first expression.
 #[cycle(expr)]
 fn range_at(
     alloc: Global,
-    lexemes: &[Lexeme],
+    terminals: &[Terminal],
     depth: u32,
     at: u32,
     first: Found<Expr>,
 ) -> Result<Found<Select>, ParseError>
-    requires room { length lexemes.now < 2 ^ 32 - 2 }
+    requires room { length terminals.now < 2 ^ 32 - 2 }
     requires depth { depth < 2 ^ 32 - 1 }
     requires first { first.depth ≤ depth }
     ensures exact { Gives result
-        (select_by lexemes.now (reader_of lexemes.now depth) at first (between_of (slice_get lexemes.now first.end))) }
+        (select_by terminals.now (reader_of terminals.now depth) at first (between_of (slice_get terminals.now first.end))) }
     ensures fits { IfOk result (λ p. p.depth ≤ depth + 1) }
 {
-    match between_at(lexemes, first.end) {
+    match between_at(terminals, first.end) {
         None => {
-            expect(lexemes, first.end, Lexeme::CloseBracket)?;
+            expect(terminals, first.end, Terminal::CloseBracket)?;
             Ok(index_node(at, first))
         }
         Some(kind) => {
-            let second = below(alloc, lexemes, depth, 11, first.end + 1)?;
-            expect(lexemes, second.end, Lexeme::CloseBracket)?;
+            let second = below(alloc, terminals, depth, 11, first.end + 1)?;
+            expect(terminals, second.end, Terminal::CloseBracket)?;
             Ok(range_node(kind, at, first, second))
         }
     }
@@ -484,15 +484,15 @@ fn range_at(
 /// The expression that begins at a place and is not deeper than `depth`.
 pub fn expr_at(
     alloc: Global,
-    lexemes: &[Lexeme],
+    terminals: &[Terminal],
     depth: u32,
     at: u32,
 ) -> Result<Found<Expr>, ParseError>
-    requires { length lexemes.now < 2 ^ 32 - 2 }
-    ensures exact { Gives result (expr_of lexemes.now depth at) }
-    ensures found { IfOk result (λ p. IsExpr lexemes.now depth at p.end p.tree) }
-    ensures only { (e : Expr) (j : ℕ) → IsWholeExpr lexemes.now depth at j e →
+    requires { length terminals.now < 2 ^ 32 - 2 }
+    ensures exact { Gives result (expr_of terminals.now depth at) }
+    ensures found { IfOk result (λ p. IsExpr terminals.now depth at p.end p.tree) }
+    ensures only { (e : Expr) (j : ℕ) → IsWholeExpr terminals.now depth at j e →
         MatchResult result (λ p. (p.tree ≡ e) × (p.end ≡ j)) (λ f. f ≡ ParseError.Memory) }
 {
-    below(alloc, lexemes, depth, 11, at)
+    below(alloc, terminals, depth, 11, at)
 }

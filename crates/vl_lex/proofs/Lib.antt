@@ -7,3 +7,4 @@ pub mod Readings
 pub mod Unique
 pub mod Outcomes
 pub mod Total
+pub mod Values

@@ -1,6 +1,6 @@
 -- What is a tree of the tokens within a depth is one within each larger depth.
 use Rattle.std.proofs.Common.{◌≡◌, ◌≤◌, ℕ, zero, suc, ◌+◌, ◌-◌, List, [], ◌∷◌, Option, Bool, subst, arith}
-use Rattle.vl_tree.specs.declared.lexemes.Lexeme.{Lexeme}
+use Rattle.vl_tree.specs.declared.terminals.Terminal.{Terminal}
 use Rattle.vl_tree.specs.declared.exprs.Expr.{Expr}
 use Rattle.vl_tree.specs.declared.statements.Stmt.{Stmt}
 use Rattle.vl_tree.specs.declared.statements.Citem.{Citem}
@@ -30,7 +30,7 @@ use Rattle.vl_tree.specs.Modules.{IsValue, IsLead, IsPdecl, IsDir, IsPort, IsBin
 use Rattle.vl_parse.proofs.Parts.{many_runs}
 use Rattle.vl_parse.proofs.DeeperParts.{commas_as, maybe_commas_as, maybe_as, level_deeper, exprs_deeper, args_deeper, lvalue_deeper, range_deeper, maybe_range_deeper, ptype_deeper, local_deeper}
 
-module _ {ls : List Lexeme} where
+module _ {ls : List Terminal} where
   scope_deeper : {n i j : ℕ} {s : Scope} → IsScope ls n i j s → IsScope ls (suc n) i j s
   scope_deeper (IsScope.scope h a l) = IsScope.scope h a (many_runs (λ a b t p. local_deeper p) l)
 
@@ -155,7 +155,7 @@ module _ {ls : List Lexeme} where
         IsModule.«module» h a (maybe_as (λ a b t p. params_deeper p) p) (maybe_as (λ a b t p. ports_deeper p) q) s
         (many_runs (λ a b t p. item_deeper p) t) e
 
-module _ (ls : List Lexeme) (names : List (List ℕ)) (n : ℕ) (tree : Tree) (is : IsSource ls names n tree) where
+module _ (ls : List Terminal) (names : List (List ℕ)) (n : ℕ) (tree : Tree) (is : IsSource ls names n tree) where
   one_deeper : {m : ℕ} → IsSource ls names m tree → IsSource ls names (suc m) tree
   one_deeper all = many_runs (λ a b t p. module_deeper p) all
 

@@ -1,6 +1,6 @@
 -- What is an expression, a left side or a declaration within a depth is one within the next depth.
 use Rattle.std.proofs.Common.{◌≡◌, ℕ, suc, List, [], ◌∷◌, Option, Some, None, Bool}
-use Rattle.vl_tree.specs.declared.lexemes.Lexeme.{Lexeme}
+use Rattle.vl_tree.specs.declared.terminals.Terminal.{Terminal}
 use Rattle.vl_tree.specs.declared.exprs.Expr.{Expr}
 use Rattle.vl_tree.specs.declared.exprs.Select.{Select}
 use Rattle.vl_tree.specs.declared.exprs.Lvalue.{Lvalue}
@@ -13,11 +13,11 @@ use Rattle.vl_tree.specs.Declarations.{IsRange, IsPtype, IsLocal}
 
 -- lists of parts, where each part is also another
 module _ {X : Type 0} {P Q : ℕ → ℕ → X → Type 0} (f : (a b : ℕ) (t : X) → P a b t → Q a b t) where
-  pub commas_as : {ls : List Lexeme} {i j : ℕ} {ts : List X} → Commas ls P i j ts → Commas ls Q i j ts
+  pub commas_as : {ls : List Terminal} {i j : ℕ} {ts : List X} → Commas ls P i j ts → Commas ls Q i j ts
   commas_as (Commas.last a) = Commas.last (f _ _ _ a)
   commas_as (Commas.more a c b) = Commas.more (f _ _ _ a) c (commas_as b)
 
-  pub maybe_commas_as : {ls : List Lexeme} {i j : ℕ} {ts : List X} → MaybeCommas ls P i j ts → MaybeCommas ls Q i j ts
+  pub maybe_commas_as : {ls : List Terminal} {i j : ℕ} {ts : List X} → MaybeCommas ls P i j ts → MaybeCommas ls Q i j ts
   maybe_commas_as MaybeCommas.none = MaybeCommas.none
   maybe_commas_as (MaybeCommas.some a) = MaybeCommas.some (commas_as a)
 
@@ -25,7 +25,7 @@ module _ {X : Type 0} {P Q : ℕ → ℕ → X → Type 0} (f : (a b : ℕ) (t :
   maybe_as Maybe.absent = Maybe.absent
   maybe_as (Maybe.present a) = Maybe.present (f _ _ _ a)
 
-module _ {ls : List Lexeme} where
+module _ {ls : List Terminal} where
   mutual
     pub level_deeper : {n l i j : ℕ} {e : Expr} → IsLevel ls n l i j e → IsLevel ls (suc n) l i j e
     level_deeper (IsLevel.choice a h b k c) = IsLevel.choice (level_deeper a) h (level_deeper b) k (level_deeper c)
@@ -36,12 +36,16 @@ module _ {ls : List Lexeme} where
     level_deeper (IsLevel.based h) = IsLevel.based h
     level_deeper (IsLevel.decimal h) = IsLevel.decimal h
     level_deeper (IsLevel.name h a) = IsLevel.name h (selects_deeper a)
-    level_deeper (IsLevel.call h o a k) = IsLevel.call h o (exprs_deeper a) k
+    level_deeper (IsLevel.call h a) = IsLevel.call h (args_deeper a)
     level_deeper (IsLevel.to_signed h p a k) = IsLevel.to_signed h p (level_deeper a) k
     level_deeper (IsLevel.to_unsigned h p a k) = IsLevel.to_unsigned h p (level_deeper a) k
     level_deeper (IsLevel.parens h a k) = IsLevel.parens h (level_deeper a) k
     level_deeper (IsLevel.concat h a k) = IsLevel.concat h (exprs_deeper a) k
     level_deeper (IsLevel.replicate h a b c k last) = IsLevel.replicate h (level_deeper a) b (exprs_deeper c) k last
+
+    pub args_deeper : {n i j : ℕ} {es : List Expr} → IsArgs ls n i j es → IsArgs ls (suc n) i j es
+    args_deeper (IsArgs.no_args h k) = IsArgs.no_args h k
+    args_deeper (IsArgs.some_args h a k) = IsArgs.some_args h (exprs_deeper a) k
 
     pub exprs_deeper : {n i j : ℕ} {es : List Expr} → IsExprs ls n i j es → IsExprs ls (suc n) i j es
     exprs_deeper (IsExprs.last_expr a) = IsExprs.last_expr (level_deeper a)
@@ -57,10 +61,6 @@ module _ {ls : List Lexeme} where
     select_deeper (IsSelect.part h a c b k) = IsSelect.part h (level_deeper a) c (level_deeper b) k
     select_deeper (IsSelect.up h a c b k) = IsSelect.up h (level_deeper a) c (level_deeper b) k
     select_deeper (IsSelect.down h a c b k) = IsSelect.down h (level_deeper a) c (level_deeper b) k
-
-  pub args_deeper : {n i j : ℕ} {es : List Expr} → IsArgs ls n i j es → IsArgs ls (suc n) i j es
-  args_deeper (IsArgs.no_args h k) = IsArgs.no_args h k
-  args_deeper (IsArgs.some_args h a k) = IsArgs.some_args h (exprs_deeper a) k
 
   mutual
     pub lvalue_deeper : {n i j : ℕ} {t : Lvalue} → IsLvalue ls n i j t → IsLvalue ls (suc n) i j t

@@ -1,8 +1,8 @@
 -- Expressions, lists of them and selects, as the crate below reads them.
 use Rattle.std.proofs.Common.{◌≡◌, ◌≤◌, ℕ, zero, suc, ◌+◌, List, [], ◌∷◌, Option, Some, None, Bool, true, false, Ok, Err, slice_get, refl, sym, ap, subst, ◌∙◌, lit<, arith}
 use Rattle.std.proofs.lemmas.Bool.{both_ways}
-use Rattle.vl_tree.specs.declared.lexemes.Lexeme.{Lexeme}
-use Rattle.vl_tree.specs.declared.lexemes.Lexeme.TheVariants as lex
+use Rattle.vl_tree.specs.declared.terminals.Terminal.{Terminal}
+use Rattle.vl_tree.specs.declared.terminals.Terminal.TheVariants as lex
 use Rattle.vl_tree.specs.declared.exprs.Expr.{Expr}
 use Rattle.vl_tree.specs.declared.exprs.Select.{Select}
 use Rattle.vl_tree.specs.Places.{At}
@@ -24,7 +24,7 @@ use Rattle.vl_parse.specs.Parts.{part, bare}
 use Rattle.vl_parse.specs.Declarations.{expr_at, exprs_at, args_at, selects_at}
 use Rattle.vl_parse.proofs.Parts.{Sound, Reads}
 
-module _ (ls : List Lexeme) (n : ℕ) where
+module _ (ls : List Terminal) (n : ℕ) where
   pub expr_stands : Sound (IsExpr ls n) (expr_at ls n)
   expr_stands = record {
     stands = λ i q e.

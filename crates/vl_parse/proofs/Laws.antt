@@ -7,10 +7,11 @@ use Rattle.xt_base.specs.declared.refusals.Fail.TheVariants as fails
 use Rattle.xt_base.specs.declared.refusals.Refusal.{Refusal}
 use Rattle.vl_pre.specs.Text.{Expanded}
 use Rattle.vl_lex.specs.declared.kinds.Token.{Token}
-use Rattle.vl_tree.specs.declared.lexemes.Lexeme.{Lexeme}
+use Rattle.vl_tree.specs.declared.terminals.Terminal.{Terminal}
 use Rattle.vl_tree.specs.declared.modules.Tree.{Tree}
 use Rattle.vl_tree.specs.declared.modules.Module.{Module}
-use Rattle.vl_expr.specs.Lexemes.{lexemes_of, spellings_of}
+use Rattle.vl_expr.specs.Terminals.{terminals_of}
+use Rattle.vl_lex.specs.Views.{spellings_of}
 use Rattle.vl_tree.specs.Modules.{IsSource}
 use Rattle.vl_expr.specs.declared.found.ParseError.{ParseError}
 use Rattle.vl_expr.specs.declared.found.ParseError.TheVariants as errors
@@ -25,14 +26,14 @@ use Rattle.vl_parse.proofs.SoundModules.{source_stands}
 use Rattle.vl_parse.proofs.ReadModules.{source_reads}
 use Rattle.vl_parse.proofs.Deeper.{source_deeper}
 
-pub one_tree : (ls : List Lexeme) (names : List (List ℕ)) (n m : ℕ) (s t : Tree) → IsSource ls names n s → IsSource ls names m t → s ≡ t
+pub one_tree : (ls : List Terminal) (names : List (List ℕ)) (n m : ℕ) (s t : Tree) → IsSource ls names n s → IsSource ls names m t → s ≡ t
 one_tree ls names n m s t a b =
     ok_one (sym (source_reads ls names (max n m) s (source_deeper ls names n s a (max n m) (omega arith)))
     ∙ source_reads ls names (max n m) t (source_deeper ls names m t b (max n m) (omega arith)))
 
 -- without tokens there is the empty source
 pub empty_source : (text : List ℕ) (ts : List Token) (n : ℕ) → ts ≡ [] →
-    source_of (lexemes_of text ts) (spellings_of text ts) n ≡ Ok (record { modules = [] })
+    source_of (terminals_of text ts) (spellings_of text ts) n ≡ Ok (record { modules = [] })
 empty_source text ts n e = rw e refl
 
 -- a stop, told by the code
@@ -44,22 +45,22 @@ no_tokens [] e = refl
 no_tokens (t ∷ ts) e = let z : length (t ∷ ts) ≡ 0 = eqb-true (length (t ∷ ts)) 0 e in absurd (omega arith)
 
 pub empty_found : (text : List ℕ) (ts : List Token) (n : ℕ) (modules : List Module) → ts ≡ [] → modules ≡ [] →
-    IsSource (lexemes_of text ts) (spellings_of text ts) n (record { modules = modules })
+    IsSource (terminals_of text ts) (spellings_of text ts) n (record { modules = modules })
 empty_found text ts n modules e m =
-    subst (λ ms. IsSource (lexemes_of text ts) (spellings_of text ts) n (record { modules = ms })) (sym m)
-    (source_stands (lexemes_of text ts) (spellings_of text ts) n (record { modules = [] }) (empty_source text ts n e))
+    subst (λ ms. IsSource (terminals_of text ts) (spellings_of text ts) n (record { modules = ms })) (sym m)
+    (source_stands (terminals_of text ts) (spellings_of text ts) n (record { modules = [] }) (empty_source text ts n e))
 
 -- what is read of a text's tokens
-pub along : (text : List ℕ) (ts : List Token) (n : ℕ) (i : Input) (ls : List Lexeme) (bytes : List ℕ) (list : List Token) →
-    i ≡ record { lexemes = ls; names = spellings_of bytes list } → ls ≡ lexemes_of text ts → bytes ≡ text → list ≡ ts →
-    source_of (lexemes_of text ts) (spellings_of text ts) n ≡ source_of i.lexemes i.names n
+pub along : (text : List ℕ) (ts : List Token) (n : ℕ) (i : Input) (ls : List Terminal) (bytes : List ℕ) (list : List Token) →
+    i ≡ record { terminals = ls; names = spellings_of bytes list } → ls ≡ terminals_of text ts → bytes ≡ text → list ≡ ts →
+    source_of (terminals_of text ts) (spellings_of text ts) n ≡ source_of i.terminals i.names n
 along text ts n i ls bytes list e l b t =
-    sym (ap (λ (k : Input). source_of k.lexemes k.names n) e
+    sym (ap (λ (k : Input). source_of k.terminals k.names n) e
     ∙ ap (λ k. source_of k (spellings_of bytes list) n) l
-    ∙ ap (λ k. source_of (lexemes_of text ts) (spellings_of k list) n) b
-    ∙ ap (λ k. source_of (lexemes_of text ts) (spellings_of text k) n) t)
+    ∙ ap (λ k. source_of (terminals_of text ts) (spellings_of k list) n) b
+    ∙ ap (λ k. source_of (terminals_of text ts) (spellings_of text k) n) t)
 
-module _ (text : Expanded) (ts : List Token) (ls : List Lexeme) (names : List (List ℕ)) (n : ℕ) where
+module _ (text : Expanded) (ts : List Token) (ls : List Terminal) (names : List (List ℕ)) (n : ℕ) where
   pub told_found : (r : Result Tree Fail) → Tells text ts r (source_of ls names n) → IfOk r (λ tree. IsSource ls names n tree)
   told_found (Ok tree) t = source_stands ls names n tree t
   told_found (Err f) t = tt

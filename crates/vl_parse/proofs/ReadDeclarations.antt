@@ -1,7 +1,7 @@
 -- Declarations of the grammar are read.
 use Rattle.std.proofs.Common.{◌≡◌, ◌≤◌, ◌<◌, ◌&&◌, ◌||◌, ℕ, zero, suc, ◌+◌, List, [], ◌∷◌, Option, Some, None, Bool, true, false, cond, Ok, Err, slice_get, length, refl, sym, ap, subst, ◌∙◌, arith, rules}
-use Rattle.vl_tree.specs.declared.lexemes.Lexeme.{Lexeme}
-use Rattle.vl_tree.specs.declared.lexemes.Lexeme.TheVariants as lex
+use Rattle.vl_tree.specs.declared.terminals.Terminal.{Terminal}
+use Rattle.vl_tree.specs.declared.terminals.Terminal.TheVariants as lex
 use Rattle.vl_tree.specs.declared.exprs.Expr.{Expr}
 use Rattle.vl_tree.specs.declared.exprs.Lvalue.{Lvalue}
 use Rattle.vl_tree.specs.declared.modules.Range.{Range}
@@ -29,21 +29,21 @@ use Rattle.vl_parse.proofs.Parts.{Separated, Reads, Runs, commas_separated, sepa
 use Rattle.vl_parse.proofs.Expressions.{expr_reads, selects_read_at}
 use Rattle.vl_parse.proofs.Follow.{not_in, in_class, off_class, there, class_there, separates, separates_ends, ends_target, target_stops, by_range, by_size, name_by_range, range_by_size}
 
-pub paren_reads : (ls : List Lexeme) (n i : ℕ) {j : ℕ} {e : Expr} → At ls (i + 1) lex.OpenParen → IsExpr ls n (i + 2) j e → At ls j lex.CloseParen →
+pub paren_reads : (ls : List Terminal) (n i : ℕ) {j : ℕ} {e : Expr} → At ls (i + 1) lex.OpenParen → IsExpr ls n (i + 2) j e → At ls j lex.CloseParen →
     paren_of ls n i ≡ Ok (part e (j + 1))
 paren_reads ls n i {j = j} o a c =
     past_at ls (i + 1) lex.OpenParen _ o ∙ bind_at _ (expr_reads ls n a (ap ends_expr c)) ∙ past_at ls j lex.CloseParen _ c
 
 -- optional parts
 
-pub maybe_reads : {X : Type 0} {P : ℕ → ℕ → X → Type 0} (ls : List Lexeme) (begins : Option Lexeme → Bool) (p : ℕ → Reading (Part X)) {i j : ℕ} {t : Option X} →
+pub maybe_reads : {X : Type 0} {P : ℕ → ℕ → X → Type 0} (ls : List Terminal) (begins : Option Terminal → Bool) (p : ℕ → Reading (Part X)) {i j : ℕ} {t : Option X} →
     ((k : ℕ) (x : X) → P k j x → p k ≡ Ok (part x j)) → ((k : ℕ) (x : X) → P k j x → begins (slice_get ls k) ≡ true) →
     begins (slice_get ls j) ≡ false → Maybe P i j t → maybe_of ls begins p i ≡ Ok (part t j)
 maybe_reads ls begins p f g h Maybe.absent = if_false _ _ _ h
 maybe_reads ls begins p f g h (Maybe.present a) = if_true _ _ _ (g _ _ a) ∙ bind_at _ (f _ _ a)
 
 -- what holds of the first token of a part, and of what follows it, holds where an optional one begins
-pub maybe_begins : {X : Type 0} {P : ℕ → ℕ → X → Type 0} (ls : List Lexeme) (f : Option Lexeme → Bool) {i j : ℕ} {t : Option X} →
+pub maybe_begins : {X : Type 0} {P : ℕ → ℕ → X → Type 0} (ls : List Terminal) (f : Option Terminal → Bool) {i j : ℕ} {t : Option X} →
     ((k : ℕ) (x : X) → P k j x → f (slice_get ls k) ≡ true) → f (slice_get ls j) ≡ true → Maybe P i j t → f (slice_get ls i) ≡ true
 maybe_begins ls f g h Maybe.absent = h
 maybe_begins ls f g h (Maybe.present a) = g _ _ a
@@ -52,41 +52,41 @@ pub maybe_moves : {X : Type 0} {P : ℕ → ℕ → X → Type 0} {i j : ℕ} {t
 maybe_moves f Maybe.absent = omega arith
 maybe_moves f (Maybe.present a) = f _ _ a
 
-pub record FlagReads (ls : List Lexeme) (x : Lexeme) (i j : ℕ) (b : Bool) : Type 0 where
+pub record FlagReads (ls : List Terminal) (x : Terminal) (i j : ℕ) (b : Bool) : Type 0 where
   pub is : is_at ls i x ≡ b
   pub end : behind ls x i ≡ j
   pub moves : i ≤ j
 
-pub flag_reads : {ls : List Lexeme} {x : Lexeme} {i j : ℕ} {b : Bool} → Flag ls x i j b → is_at ls j x ≡ false → FlagReads ls x i j b
+pub flag_reads : {ls : List Terminal} {x : Terminal} {i j : ℕ} {b : Bool} → Flag ls x i j b → is_at ls j x ≡ false → FlagReads ls x i j b
 flag_reads Flag.unset h = record { is = h; end = if_false _ _ _ h; moves = omega arith }
 flag_reads {ls = ls} {x = x} {i = i} (Flag.set a) h =
     let t = in_is_true (slice_get ls i) x a in record { is = t; end = if_true _ _ _ t; moves = omega arith }
 
-pub flag_begins : {ls : List Lexeme} {x : Lexeme} (f : Option Lexeme → Bool) {i j : ℕ} {b : Bool} → f (Some x) ≡ true → f (slice_get ls j) ≡ true → Flag ls x i j b →
+pub flag_begins : {ls : List Terminal} {x : Terminal} (f : Option Terminal → Bool) {i j : ℕ} {b : Bool} → f (Some x) ≡ true → f (slice_get ls j) ≡ true → Flag ls x i j b →
     f (slice_get ls i) ≡ true
 flag_begins f e h Flag.unset = h
 flag_begins {x = x} f e h (Flag.set a) = in_class f x a e
 
 -- lists
 
-pub commas_begin : {X : Type 0} {ls : List Lexeme} {P : ℕ → ℕ → X → Type 0} (f : Option Lexeme → Bool) {i j : ℕ} {ts : List X} →
+pub commas_begin : {X : Type 0} {ls : List Terminal} {P : ℕ → ℕ → X → Type 0} (f : Option Terminal → Bool) {i j : ℕ} {ts : List X} →
     ((a b : ℕ) (t : X) → P a b t → f (slice_get ls a) ≡ true) → Commas ls P i j ts → f (slice_get ls i) ≡ true
 commas_begin f g (Commas.last a) = g _ _ _ a
 commas_begin f g (Commas.more a c b) = g _ _ _ a
 
 -- a list of parts each of which stands before a comma or before what closes the list
-pub commas_read : {X : Type 0} {P : ℕ → ℕ → X → Type 0} (ls : List Lexeme) (p : ℕ → Reading (Part X)) {i j : ℕ} {ts : List X} →
-    ((a b : ℕ) (t : X) → P a b t → Reads ls p separates a b t) → (x : Lexeme) → separates (Some x) ≡ true →
+pub commas_read : {X : Type 0} {P : ℕ → ℕ → X → Type 0} (ls : List Terminal) (p : ℕ → Reading (Part X)) {i j : ℕ} {ts : List X} →
+    ((a b : ℕ) (t : X) → P a b t → Reads ls p separates a b t) → (x : Terminal) → separates (Some x) ≡ true →
     is_in (Some x) lex.Comma ≡ false → At ls j x → Commas ls P i j ts → separated_of ls lex.Comma p i ≡ Ok (part ts j)
 commas_read ls p f x s c h a =
     separated_reads ls p separates (commas_separated f a) refl (in_class separates x h s) (not_at x lex.Comma h c)
 
-pub commas_move : {X : Type 0} {P : ℕ → ℕ → X → Type 0} (ls : List Lexeme) (p : ℕ → Reading (Part X)) {i j : ℕ} {ts : List X} →
+pub commas_move : {X : Type 0} {P : ℕ → ℕ → X → Type 0} (ls : List Terminal) (p : ℕ → Reading (Part X)) {i j : ℕ} {ts : List X} →
     ((a b : ℕ) (t : X) → P a b t → Reads ls p separates a b t) → Commas ls P i j ts → i ≤ j
 commas_move ls p f a = separated_moves ls p separates (commas_separated f a)
 
 -- a list before a closing parenthesis
-pub listed_reads : {X : Type 0} {P : ℕ → ℕ → X → Type 0} (ls : List Lexeme) (p : ℕ → Reading (Part X)) {i j : ℕ} {ts : List X} →
+pub listed_reads : {X : Type 0} {P : ℕ → ℕ → X → Type 0} (ls : List Terminal) (p : ℕ → Reading (Part X)) {i j : ℕ} {ts : List X} →
     ((a b : ℕ) (t : X) → P a b t → Reads ls p separates a b t) → ((a b : ℕ) (t : X) → P a b t → is_at ls a lex.CloseParen ≡ false) →
     At ls j lex.CloseParen → MaybeCommas ls P i j ts → listed_of ls p i ≡ Ok (part ts j)
 listed_reads ls p {i = i} f g h MaybeCommas.none = if_true _ _ _ (in_is_true (slice_get ls i) lex.CloseParen h)
@@ -94,12 +94,12 @@ listed_reads ls p f g h (MaybeCommas.some (Commas.last a)) = if_false _ _ _ (g _
 listed_reads ls p f g h (MaybeCommas.some (Commas.more a c b)) =
     if_false _ _ _ (g _ _ _ a) ∙ commas_read ls p f lex.CloseParen refl refl h (Commas.more a c b)
 
-pub listed_move : {X : Type 0} {P : ℕ → ℕ → X → Type 0} (ls : List Lexeme) (p : ℕ → Reading (Part X)) {i j : ℕ} {ts : List X} →
+pub listed_move : {X : Type 0} {P : ℕ → ℕ → X → Type 0} (ls : List Terminal) (p : ℕ → Reading (Part X)) {i j : ℕ} {ts : List X} →
     ((a b : ℕ) (t : X) → P a b t → Reads ls p separates a b t) → MaybeCommas ls P i j ts → i ≤ j
 listed_move ls p f MaybeCommas.none = omega arith
 listed_move ls p f (MaybeCommas.some a) = commas_move ls p f a
 
-module _ (ls : List Lexeme) where
+module _ (ls : List Terminal) where
   pub name_reads : {i j k : ℕ} → Name ls i j k → Reads ls (name_of ls) separates i j k
   name_reads {i = i} (Name.id h) = record { moves = omega arith; is = λ e. named_at ls i _ h }
 

@@ -3,8 +3,8 @@ use Rattle.std.proofs.Common.{◌≡◌, ◌≤◌, ◌<◌, ◌&&◌, ◌||◌,
 use Rattle.std.specs.Prelude.{is_some, not}
 use Rattle.std.proofs.lemmas.Bool.{and_from, and_left, and_right, or_from, or_left, or_right, both_ways}
 use Rattle.std.proofs.lemmas.Option.{slice_get_past}
-use Rattle.vl_tree.specs.declared.lexemes.Lexeme.{Lexeme}
-use Rattle.vl_tree.specs.declared.lexemes.Lexeme.TheVariants as lex
+use Rattle.vl_tree.specs.declared.terminals.Terminal.{Terminal}
+use Rattle.vl_tree.specs.declared.terminals.Terminal.TheVariants as lex
 use Rattle.vl_tree.specs.declared.exprs.Expr.{Expr}
 use Rattle.vl_tree.specs.declared.modules.Tree.{Tree}
 use Rattle.vl_tree.specs.declared.modules.Module.{Module}
@@ -52,24 +52,24 @@ use Rattle.vl_parse.proofs.ReadStatements.{stmt_reads, stmt_moves}
 use Rattle.vl_parse.proofs.ReadRoutines.{dir_or_name, direction_reads, direction_opens, name_no_dir, task_reads, task_moves, function_reads, function_moves, import_reads, import_moves}
 
 -- a name or what stands before one
-abbrev lead_or_name : Option Lexeme → Bool
+abbrev lead_or_name : Option Terminal → Bool
 lead_or_name o = is_in o lex.Parameter || name_in o
 
 -- `wire` or what a size begins with
-abbrev wire_or_size : Option Lexeme → Bool
+abbrev wire_or_size : Option Terminal → Bool
 wire_or_size o = is_in o lex.Wire || by_size o
 
 -- what a list of connections begins with
-abbrev conn_begins : Option Lexeme → Bool
+abbrev conn_begins : Option Terminal → Bool
 conn_begins o = is_in o lex.Dot || begins o
 
-abbrev hash_or_name : Option Lexeme → Bool
+abbrev hash_or_name : Option Terminal → Bool
 hash_or_name o = is_in o lex.Hash || name_in o
 
-abbrev paren_or_semicolon : Option Lexeme → Bool
+abbrev paren_or_semicolon : Option Terminal → Bool
 paren_or_semicolon o = is_in o lex.OpenParen || is_in o lex.Semicolon
 
-abbrev equals_or_end : Option Lexeme → Bool
+abbrev equals_or_end : Option Terminal → Bool
 equals_or_end o = is_in o lex.Equals || separates o
 
 abbrev is_nothing : ItemStart → Bool
@@ -77,7 +77,7 @@ is_nothing start.Nothing = true
 is_nothing _ = false
 
 -- whether an item can begin with a token
-abbrev begins_item : Option Lexeme → Bool
+abbrev begins_item : Option Terminal → Bool
 begins_item o = not (is_nothing (item_start o false))
 
 not_true : {b : Bool} → b ≡ false → not b ≡ true
@@ -86,7 +86,7 @@ not_true e = rw e refl
 not_false : {b : Bool} → b ≡ true → not b ≡ false
 not_false e = rw e refl
 
-module _ (ls : List Lexeme) (n : ℕ) where
+module _ (ls : List Terminal) (n : ℕ) where
   -- a value is there exactly where an equals sign is
   default_reads : {i j : ℕ} {e : Option Expr} → Maybe (IsValue ls n) i j e → Reads ls (default_of ls n) separates i j e
   default_reads {j = j} m = record {
@@ -271,15 +271,15 @@ module _ (ls : List Lexeme) (n : ℕ) where
   ports_move : {i j : ℕ} {all : List Port} → IsPorts ls n i j all → i ≤ j
   ports_move (IsPorts.ports o a led fit c) = let p = listed_move ls (port_of ls n) (λ a b t r. port_reads r) a in omega arith
 
-module _ (ls : List Lexeme) (names : List (List ℕ)) (n : ℕ) where
+module _ (ls : List Terminal) (names : List (List ℕ)) (n : ℕ) where
   -- an item that begins with a token
-  started : (i : ℕ) {j : ℕ} {t : Item} (x : Lexeme) (s : ItemStart) → At ls i x → ((b : Bool) → item_start (Some x) b ≡ s) →
+  started : (i : ℕ) {j : ℕ} {t : Item} (x : Terminal) (s : ItemStart) → At ls i x → ((b : Bool) → item_start (Some x) b ≡ s) →
       item_by ls names n i s ≡ Ok (part t j) → item_of ls names n i ≡ Ok (part t j)
   started i x s h e r =
       ap (item_by ls names n i) (ap (λ o. item_start o (is_at ls (i + 1) lex.Dpi)) h ∙ e (is_at ls (i + 1) lex.Dpi)) ∙ r
 
   -- a name begins instances, if it isn't before the string of an import
-  name_starts : (o : Option Lexeme) → name_in o ≡ true → item_start o false ≡ start.Instances
+  name_starts : (o : Option Terminal) → name_in o ≡ true → item_start o false ≡ start.Instances
   name_starts (Some lex.Identifier) e = refl
   name_starts (Some lex.Import) e = refl
   name_starts (Some lex.Context) e = refl

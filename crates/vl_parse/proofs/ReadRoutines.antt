@@ -2,8 +2,8 @@
 use Rattle.std.proofs.Common.{◌≡◌, ◌≤◌, ◌<◌, ◌&&◌, ◌||◌, ℕ, zero, suc, ◌+◌, List, [], ◌∷◌, Option, Some, None, Bool, true, false, cond, Ok, Err, slice_get, length, refl, sym, ap, subst, ◌∙◌, arith, rules}
 use Rattle.std.specs.Prelude.{is_some}
 use Rattle.std.proofs.lemmas.Bool.{or_from, or_left, or_right, both_ways}
-use Rattle.vl_tree.specs.declared.lexemes.Lexeme.{Lexeme}
-use Rattle.vl_tree.specs.declared.lexemes.Lexeme.TheVariants as lex
+use Rattle.vl_tree.specs.declared.terminals.Terminal.{Terminal}
+use Rattle.vl_tree.specs.declared.terminals.Terminal.TheVariants as lex
 use Rattle.vl_tree.specs.declared.operators.Sign.{Sign}
 use Rattle.vl_tree.specs.declared.operators.Sign.TheVariants as sign
 use Rattle.vl_tree.specs.declared.modules.Direction.{Direction}
@@ -46,73 +46,73 @@ plus_two : (i : ℕ) → i + 1 + 1 ≡ i + 2
 plus_two i = omega arith
 
 -- what begins a name's leading words, or is the name
-abbrev pub dir_or_name : Option Lexeme → Bool
+abbrev pub dir_or_name : Option Terminal → Bool
 dir_or_name o = opens_dir o || name_in o
 
-pub direction_reads : {ls : List Lexeme} {i j : ℕ} {d : Direction} → IsDirection ls i j d → direction_of (slice_get ls i) ≡ Some d
+pub direction_reads : {ls : List Terminal} {i j : ℕ} {d : Direction} → IsDirection ls i j d → direction_of (slice_get ls i) ≡ Some d
 direction_reads (IsDirection.input h) = ap direction_of h
 direction_reads (IsDirection.output h) = ap direction_of h
 
-pub direction_opens : {ls : List Lexeme} {i j : ℕ} {d : Direction} → IsDirection ls i j d → opens_dir (slice_get ls i) ≡ true
+pub direction_opens : {ls : List Terminal} {i j : ℕ} {d : Direction} → IsDirection ls i j d → opens_dir (slice_get ls i) ≡ true
 direction_opens a = ap is_some (direction_reads a)
 
-word_reads : {ls : List Lexeme} {i j : ℕ} {w : IntWord} → IsIntWord ls i j w → word_of (slice_get ls i) ≡ Some w
+word_reads : {ls : List Terminal} {i j : ℕ} {w : IntWord} → IsIntWord ls i j w → word_of (slice_get ls i) ≡ Some w
 word_reads (IsIntWord.byte h) = ap word_of h
 word_reads (IsIntWord.shortint h) = ap word_of h
 word_reads (IsIntWord.int h) = ap word_of h
 word_reads (IsIntWord.longint h) = ap word_of h
 
-abbrev is_word : Option Lexeme → Bool
+abbrev is_word : Option Terminal → Bool
 is_word o = is_some (word_of o)
 
-sign_reads : {ls : List Lexeme} {i j : ℕ} {s : Sign} → IsSign ls i j s → sign_of (slice_get ls i) ≡ Some s
+sign_reads : {ls : List Terminal} {i j : ℕ} {s : Sign} → IsSign ls i j s → sign_of (slice_get ls i) ≡ Some s
 sign_reads (IsSign.signed h) = ap sign_of h
 sign_reads (IsSign.unsigned h) = ap sign_of h
 
-sign_end : {ls : List Lexeme} {i j : ℕ} {s : Sign} → IsSign ls i j s → i + 1 ≡ j
+sign_end : {ls : List Terminal} {i j : ℕ} {s : Sign} → IsSign ls i j s → i + 1 ≡ j
 sign_end (IsSign.signed h) = refl
 sign_end (IsSign.unsigned h) = refl
 
 -- a name is no sign
-no_sign : (o : Option Lexeme) → name_in o ≡ true → sign_of o ≡ None
+no_sign : (o : Option Terminal) → name_in o ≡ true → sign_of o ≡ None
 no_sign (Some lex.Signed) e = absurd (both_ways _ refl e)
 no_sign (Some lex.Unsigned) e = absurd (both_ways _ refl e)
 no_sign (Some _) e = refl
 no_sign None e = refl
 
 -- nor is it a direction
-pub name_no_dir : (o : Option Lexeme) → name_in o ≡ true → opens_dir o ≡ false
+pub name_no_dir : (o : Option Terminal) → name_in o ≡ true → opens_dir o ≡ false
 name_no_dir (Some lex.Input) e = absurd (both_ways _ refl e)
 name_no_dir (Some lex.Output) e = absurd (both_ways _ refl e)
 name_no_dir (Some _) e = refl
 name_no_dir None e = refl
 
-local_no_dir : (o : Option Lexeme) → opens_local o ≡ true → opens_dir o ≡ false
+local_no_dir : (o : Option Terminal) → opens_local o ≡ true → opens_dir o ≡ false
 local_no_dir (Some lex.Input) e = absurd (both_ways _ refl e)
 local_no_dir (Some lex.Output) e = absurd (both_ways _ refl e)
 local_no_dir (Some _) e = refl
 local_no_dir None e = refl
 
-stmt_no_dir : (o : Option Lexeme) → begins_stmt o ≡ true → opens_dir o ≡ false
+stmt_no_dir : (o : Option Terminal) → begins_stmt o ≡ true → opens_dir o ≡ false
 stmt_no_dir (Some lex.Input) e = absurd (both_ways _ refl e)
 stmt_no_dir (Some lex.Output) e = absurd (both_ways _ refl e)
 stmt_no_dir (Some _) e = refl
 stmt_no_dir None e = refl
 
 -- an `else` isn't missing where a routine ends
-closed_by : (d : Bool) (o : Option Lexeme) → no_else o ≡ true → (d && is_in o lex.Else) ≡ false
+closed_by : (d : Bool) (o : Option Terminal) → no_else o ≡ true → (d && is_in o lex.Else) ≡ false
 closed_by true o e = else_not o e
 closed_by false o e = refl
 
 -- `reg` or what a size begins with
-abbrev reg_or_size : Option Lexeme → Bool
+abbrev reg_or_size : Option Terminal → Bool
 reg_or_size o = is_in o lex.Reg || by_size o
 
 -- what begins a declaration, or a statement behind declarations
-abbrev arg_or_stmt : Option Lexeme → Bool
+abbrev arg_or_stmt : Option Terminal → Bool
 arg_or_stmt o = opens_arg o || begins_stmt o
 
-module _ (ls : List Lexeme) where
+module _ (ls : List Terminal) where
   module _ (n : ℕ) where
     pub fdir_reads : {i j : ℕ} {d : Fdir} → IsFdir ls n i j d → name_in (slice_get ls j) ≡ true → fdir_of ls n i ≡ Ok (part d j)
     fdir_reads {i = i} {j = j} (IsFdir.vector_formal {j = k} {d = d} {signed = signed} {range = range} a f g r) h =

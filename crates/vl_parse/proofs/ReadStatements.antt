@@ -2,8 +2,8 @@
 use Rattle.std.proofs.Common.{◌≡◌, ◌≤◌, ◌<◌, ◌&&◌, ◌||◌, ℕ, zero, suc, ◌+◌, List, [], ◌∷◌, ◌++◌, Option, Some, None, Bool, true, false, cond, Ok, Err, slice_get, length, refl, sym, ap, subst, ◌∙◌, append_assoc, lit<, arith, rules}
 use Rattle.std.specs.Prelude.{is_some, not}
 use Rattle.std.proofs.lemmas.Bool.{and_right, and_from, or_from, or_left, both_ways}
-use Rattle.vl_tree.specs.declared.lexemes.Lexeme.{Lexeme}
-use Rattle.vl_tree.specs.declared.lexemes.Lexeme.TheVariants as lex
+use Rattle.vl_tree.specs.declared.terminals.Terminal.{Terminal}
+use Rattle.vl_tree.specs.declared.terminals.Terminal.TheVariants as lex
 use Rattle.vl_tree.specs.declared.exprs.Expr.{Expr}
 use Rattle.vl_tree.specs.declared.exprs.Lvalue.{Lvalue}
 use Rattle.vl_tree.specs.declared.exprs.Select.{Select}
@@ -40,23 +40,23 @@ plus_two : (i : ℕ) → i + 1 + 1 ≡ i + 2
 plus_two i = omega arith
 
 -- names joined by dots
-path_separated : {ls : List Lexeme} {i j : ℕ} {names : List ℕ} → IsPath ls i j names → Separated ls lex.Dot (Reads ls (name_of ls) (λ o. true)) i j names
+path_separated : {ls : List Terminal} {i j : ℕ} {names : List ℕ} → IsPath ls i j names → Separated ls lex.Dot (Reads ls (name_of ls) (λ o. true)) i j names
 path_separated {ls = ls} {i = i} (IsPath.last_name h) = Separated.only (record { moves = omega arith; is = λ e. named_at ls i _ h })
 path_separated {ls = ls} {i = i} {j = j} (IsPath.more_names {names = names} h c more) =
     Separated.before (record { moves = omega arith; is = λ e. named_at ls i _ h }) c
     (subst (λ k. Separated ls lex.Dot (Reads ls (name_of ls) (λ o. true)) k j names) (sym (plus_two i)) (path_separated more))
 
-edge_reads : {ls : List Lexeme} {i j : ℕ} {e : Edge} → IsEdge ls i j e → Statements.edge_of (slice_get ls i) ≡ Some e
+edge_reads : {ls : List Terminal} {i j : ℕ} {e : Edge} → IsEdge ls i j e → Statements.edge_of (slice_get ls i) ≡ Some e
 edge_reads (IsEdge.posedge h) = ap Statements.edge_of h
 edge_reads (IsEdge.negedge h) = ap Statements.edge_of h
 
 -- a statement's first token
 
-lvalue_begins : {ls : List Lexeme} {n i j : ℕ} {t : Lvalue} → IsLvalue ls n i j t → begins_stmt (slice_get ls i) ≡ true
+lvalue_begins : {ls : List Terminal} {n i j : ℕ} {t : Lvalue} → IsLvalue ls n i j t → begins_stmt (slice_get ls i) ≡ true
 lvalue_begins {ls = ls} {i = i} (IsLvalue.target h a) = name_begins_stmt (slice_get ls i) h
 lvalue_begins (IsLvalue.targets h a c) = in_class begins_stmt lex.OpenBrace h refl
 
-pub stmt_begins : {ls : List Lexeme} {names : List (List ℕ)} {n i j : ℕ} {d : Bool} {s : Stmt} → IsStmt ls names n d i j s → begins_stmt (slice_get ls i) ≡ true
+pub stmt_begins : {ls : List Terminal} {names : List (List ℕ)} {n i j : ℕ} {d : Bool} {s : Stmt} → IsStmt ls names n d i j s → begins_stmt (slice_get ls i) ≡ true
 stmt_begins (IsStmt.null h) = in_class begins_stmt lex.Semicolon h refl
 stmt_begins (IsStmt.blocking a h e c) = lvalue_begins a
 stmt_begins (IsStmt.nonblocking a h e c) = lvalue_begins a
@@ -73,28 +73,28 @@ stmt_begins {ls = ls} {i = i} (IsStmt.enable h a c) = name_begins_stmt (slice_ge
 stmt_begins (IsStmt.disable h a c) = in_class begins_stmt lex.Disable h refl
 
 -- what holds where a statement begins
-pub begun_stmt : (o : Option Lexeme) → begins_stmt o ≡ true → opens_stmt o ≡ true
+pub begun_stmt : (o : Option Terminal) → begins_stmt o ≡ true → opens_stmt o ≡ true
 begun_stmt o h = and_from (is_some o) (not (is_in o lex.End)) (class_there begins_stmt refl o h) (not_true (not_in begins_stmt lex.End refl o h))
   where
     not_true : {b : Bool} → b ≡ false → not b ≡ true
     not_true e = rw e refl
 
-pub stmt_follows : (o : Option Lexeme) → begins_stmt o ≡ true → no_else o ≡ true
+pub stmt_follows : (o : Option Terminal) → begins_stmt o ≡ true → no_else o ≡ true
 stmt_follows o h = not_else o (not_in begins_stmt lex.Else refl o h)
 
 -- what holds where a case item begins
-begun_by : (f : Option Lexeme → Bool) → f None ≡ false → f (Some lex.Endcase) ≡ false → (o : Option Lexeme) → f o ≡ true → opens_citem o ≡ true
+begun_by : (f : Option Terminal → Bool) → f None ≡ false → f (Some lex.Endcase) ≡ false → (o : Option Terminal) → f o ≡ true → opens_citem o ≡ true
 begun_by f e k o h = and_from (is_some o) (not (is_in o lex.Endcase)) (class_there f e o h) (not_true (not_in f lex.Endcase k o h))
   where
     not_true : {b : Bool} → b ≡ false → not b ≡ true
     not_true e = rw e refl
 
-record CitemBegins (o : Option Lexeme) (d : ℕ) : Type 0 where
+record CitemBegins (o : Option Terminal) (d : ℕ) : Type 0 where
   begun : opens_citem o ≡ true
   follows : no_else o ≡ true
   counts : d ≡ count (is_in o lex.Default)
 
-citem_begins : {ls : List Lexeme} {names : List (List ℕ)} {n d i j : ℕ} {c : Citem} → IsCitem ls names n d i j c → CitemBegins (slice_get ls i) d
+citem_begins : {ls : List Terminal} {names : List (List ℕ)} {n d i j : ℕ} {c : Citem} → IsCitem ls names n d i j c → CitemBegins (slice_get ls i) d
 citem_begins {ls = ls} {i = i} (IsCitem.labels a c s) =
     let b = exprs_begin a in
     record {
@@ -121,10 +121,10 @@ had_counts false true e = refl
 had_counts false false e = refl
 
 -- a statement begins here, or `end` stands here
-abbrev stmt_or_end : Option Lexeme → Bool
+abbrev stmt_or_end : Option Terminal → Bool
 stmt_or_end o = begins_stmt o || is_in o lex.End
 
-module _ (ls : List Lexeme) (names : List (List ℕ)) where
+module _ (ls : List Terminal) (names : List (List ℕ)) where
   scope_reads : {n i j : ℕ} {s : Scope} → IsScope ls n i j s → opens_local (slice_get ls j) ≡ false → scope_of ls n i ≡ Ok (part s j)
   scope_reads {n = n} {i = i} (IsScope.scope h a m) e =
       past_at ls i lex.Colon _ h ∙ named_at ls (i + 1) _ a ∙ bind_at _ (locals_read ls n m e)
@@ -169,11 +169,11 @@ module _ (ls : List Lexeme) (names : List (List ℕ)) where
     citem_moves (IsCitem.labels a c s) = let p = exprs_move a in let q = stmt_moves s in omega arith
     citem_moves (IsCitem.default h f s) = let p = flag_moves f in let q = stmt_moves s in omega arith
       where
-        flag_moves : {x : Lexeme} {i j : ℕ} {b : Bool} → Flag ls x i j b → i ≤ j
+        flag_moves : {x : Terminal} {i j : ℕ} {b : Bool} → Flag ls x i j b → i ≤ j
         flag_moves Flag.unset = omega arith
         flag_moves (Flag.set a) = omega arith
 
-  opened : (n i : ℕ) {j : ℕ} {s : Stmt} (x : Lexeme) (o : Opening) → At ls i x → opening_of (Some x) ≡ o →
+  opened : (n i : ℕ) {j : ℕ} {s : Stmt} (x : Terminal) (o : Opening) → At ls i x → opening_of (Some x) ≡ o →
       stmt_by ls names (stmt_of ls names n) n i o ≡ Ok (part s j) → stmt_of ls names (suc n) i ≡ Ok (part s j)
   opened n i x o h e r = ap (stmt_by ls names (stmt_of ls names n) n i) (ap opening_of h ∙ e) ∙ r
 

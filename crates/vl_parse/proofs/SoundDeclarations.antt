@@ -1,7 +1,7 @@
 -- Declarations that are read are in the grammar.
 use Rattle.std.proofs.Common.{◌≡◌, ◌≤◌, ◌&&◌, ◌||◌, ℕ, zero, suc, ◌+◌, List, [], ◌∷◌, Option, Some, None, Bool, true, false, Ok, Err, slice_get, refl, sym, ap, subst, arith}
-use Rattle.vl_tree.specs.declared.lexemes.Lexeme.{Lexeme}
-use Rattle.vl_tree.specs.declared.lexemes.Lexeme.TheVariants as lex
+use Rattle.vl_tree.specs.declared.terminals.Terminal.{Terminal}
+use Rattle.vl_tree.specs.declared.terminals.Terminal.TheVariants as lex
 use Rattle.vl_tree.specs.declared.exprs.Expr.{Expr}
 use Rattle.vl_tree.specs.declared.exprs.Lvalue.{Lvalue}
 use Rattle.vl_tree.specs.declared.exprs.Lvalue.TheVariants as lvalue
@@ -26,14 +26,14 @@ use Rattle.vl_parse.proofs.Parts.{Sound, commas_stand, maybe_stands, named_ok, n
 use Rattle.vl_parse.proofs.Expressions.{expr_stands, selects_stand_at}
 
 -- an expression in parentheses behind a keyword
-pub record ParenAt (ls : List Lexeme) (n at : ℕ) (q : Part Expr) : Type 0 where
+pub record ParenAt (ls : List Terminal) (n at : ℕ) (q : Part Expr) : Type 0 where
   pub last : ℕ
   pub opens : At ls (at + 1) lex.OpenParen
   pub expr : IsExpr ls n (at + 2) last q.tree
   pub closes : At ls last lex.CloseParen
   pub end : last + 1 ≡ q.end
 
-pub paren_stands : (ls : List Lexeme) (n at : ℕ) (q : Part Expr) → paren_of ls n at ≡ Ok q → ParenAt ls n at q
+pub paren_stands : (ls : List Terminal) (n at : ℕ) (q : Part Expr) → paren_of ls n at ≡ Ok q → ParenAt ls n at q
 paren_stands ls n at q e =
     let o = past_ok ls (at + 1) lex.OpenParen _ q e in
     let b = bind_ok _ _ q o.rest in
@@ -47,11 +47,11 @@ paren_stands ls n at q e =
       end = ap (λ r. r.end) is;
     }
 
-lvalues_of : {ls : List Lexeme} {n i j : ℕ} {ts : List Lvalue} → Commas ls (IsLvalue ls n) i j ts → IsLvalues ls n i j ts
+lvalues_of : {ls : List Terminal} {n i j : ℕ} {ts : List Lvalue} → Commas ls (IsLvalue ls n) i j ts → IsLvalues ls n i j ts
 lvalues_of (Commas.last a) = IsLvalues.last_target a
 lvalues_of (Commas.more a c more) = IsLvalues.more_targets a c (lvalues_of more)
 
-module _ (ls : List Lexeme) where
+module _ (ls : List Terminal) where
   target_stands : (n i : ℕ) (q : Part Lvalue) → target_of ls n i ≡ Ok q → IsLvalue ls (suc n) i q.end q.tree
   target_stands n i q e =
       let m = named_ok ls i _ q e in

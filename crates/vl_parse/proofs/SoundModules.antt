@@ -3,8 +3,8 @@ use Rattle.std.proofs.Common.{◌≡◌, ◌≤◌, ◌<◌, ◌&&◌, ◌||◌,
 use Rattle.std.specs.Prelude.{is_some}
 use Rattle.std.proofs.lemmas.Bool.{and_parts, both_ways}
 use Rattle.std.proofs.lemmas.Option.{slice_get_within}
-use Rattle.vl_tree.specs.declared.lexemes.Lexeme.{Lexeme}
-use Rattle.vl_tree.specs.declared.lexemes.Lexeme.TheVariants as lex
+use Rattle.vl_tree.specs.declared.terminals.Terminal.{Terminal}
+use Rattle.vl_tree.specs.declared.terminals.Terminal.TheVariants as lex
 use Rattle.vl_tree.specs.declared.exprs.Expr.{Expr}
 use Rattle.vl_tree.specs.declared.modules.Tree.{Tree}
 use Rattle.vl_tree.specs.declared.modules.Module.{Module}
@@ -49,7 +49,7 @@ none_behind [] at e = omega arith
 none_behind (x ∷ xs) zero e = cc
 none_behind (x ∷ xs) (suc at) e = let h = none_behind xs at e in omega arith
 
-module _ (ls : List Lexeme) (n : ℕ) where
+module _ (ls : List Terminal) (n : ℕ) where
   default_stands : (i : ℕ) (q : Part (Option Expr)) → default_of ls n i ≡ Ok q → Maybe (IsValue ls n) i q.end q.tree
   default_stands i q e = maybe_stands ls (IsValue ls n) (value_of ls n) (value_stands ls n) opens_value i q e
 
@@ -200,7 +200,7 @@ module _ (ls : List Lexeme) (n : ℕ) where
         (IsPorts.ports o.here (listed_stand ls (IsPort ls n) (port_of ls n) port_stands (i + 1) b.val b.first) t.holds u.holds c.here);
   }
 
-module _ (ls : List Lexeme) (names : List (List ℕ)) (n : ℕ) where
+module _ (ls : List Terminal) (names : List (List ℕ)) (n : ℕ) where
   item_by_stands : (i : ℕ) (s : ItemStart) (q : Part Item) → item_start (slice_get ls i) (is_at ls (i + 1) lex.Dpi) ≡ s →
       item_by ls names n i s ≡ Ok q → IsItem ls names n i q.end q.tree
   item_by_stands i (start.Params w) q is e =

@@ -1,8 +1,8 @@
 -- Tasks, functions and imports that are read are in the grammar.
 use Rattle.std.proofs.Common.{◌≡◌, ◌≤◌, ◌&&◌, ◌||◌, ℕ, zero, suc, ◌+◌, List, [], ◌∷◌, Option, Some, None, Bool, true, false, cond, Ok, Err, slice_get, refl, sym, ap, subst, ◌∙◌, arith, rules}
 use Rattle.std.specs.Prelude.{is_some}
-use Rattle.vl_tree.specs.declared.lexemes.Lexeme.{Lexeme}
-use Rattle.vl_tree.specs.declared.lexemes.Lexeme.TheVariants as lex
+use Rattle.vl_tree.specs.declared.terminals.Terminal.{Terminal}
+use Rattle.vl_tree.specs.declared.terminals.Terminal.TheVariants as lex
 use Rattle.vl_tree.specs.declared.operators.Sign.{Sign}
 use Rattle.vl_tree.specs.declared.modules.Direction.{Direction}
 use Rattle.vl_tree.specs.declared.routines.Task.{Task}
@@ -36,7 +36,7 @@ use Rattle.vl_parse.proofs.Tokens.{direction_is, word_is, sign_is}
 plus_two : (i : ℕ) → i + 1 + 1 ≡ i + 2
 plus_two i = omega arith
 
-module _ (ls : List Lexeme) (n : ℕ) where
+module _ (ls : List Terminal) (n : ℕ) where
   fdir_by_stands : (i : ℕ) (o : Option Direction) (q : Part Fdir) → direction_of (slice_get ls i) ≡ o → fdir_by ls n i o ≡ Ok q → IsFdir ls n i q.end q.tree
   fdir_by_stands i None q is e = cc
   fdir_by_stands i (Some d) q is e =
@@ -174,7 +174,7 @@ module _ (ls : List Lexeme) (n : ℕ) where
       (record { at = i; spec = i + 1; context = is_at ls (i + 2) lex.Context; rtype = t.val.tree; name = t.val.end; args = r.tree })) (ok_one f.rest)
       (IsImport.«import» b.here c.here (flag_stands ls lex.Context (i + 2)) d.here type m.here o.here list k.here f.here))
 
-module _ (ls : List Lexeme) (names : List (List ℕ)) (n : ℕ) where
+module _ (ls : List Terminal) (names : List (List ℕ)) (n : ℕ) where
   pub task_stands : (i : ℕ) (q : Part Task) → task_of ls names n i ≡ Ok q → IsTask ls names n i q.end q.tree
   task_stands i q e =
       let a = past_ok ls i lex.Task _ q e in

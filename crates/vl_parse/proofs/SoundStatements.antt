@@ -1,8 +1,8 @@
 -- Statements that are read are in the grammar.
 use Rattle.std.proofs.Common.{◌≡◌, ◌≤◌, ◌&&◌, ◌||◌, ℕ, zero, suc, ◌+◌, List, [], ◌∷◌, ◌++◌, Option, Some, None, Bool, true, false, cond, Ok, Err, slice_get, length, refl, sym, ap, subst, ◌∙◌, arith, rules}
 use Rattle.std.proofs.lemmas.Bool.{and_parts, and_right, both_ways}
-use Rattle.vl_tree.specs.declared.lexemes.Lexeme.{Lexeme}
-use Rattle.vl_tree.specs.declared.lexemes.Lexeme.TheVariants as lex
+use Rattle.vl_tree.specs.declared.terminals.Terminal.{Terminal}
+use Rattle.vl_tree.specs.declared.terminals.Terminal.TheVariants as lex
 use Rattle.vl_tree.specs.declared.exprs.Expr.{Expr}
 use Rattle.vl_tree.specs.declared.exprs.Lvalue.{Lvalue}
 use Rattle.vl_tree.specs.declared.statements.Stmt.{Stmt}
@@ -40,26 +40,26 @@ plus_two i = omega arith
 plus_three : (i : ℕ) → i + 2 + 1 ≡ i + 3
 plus_three i = omega arith
 
-path_of : {ls : List Lexeme} {i j : ℕ} {names : List ℕ} → Separated ls lex.Dot (Name ls) i j names → IsPath ls i j names
+path_of : {ls : List Terminal} {i j : ℕ} {names : List ℕ} → Separated ls lex.Dot (Name ls) i j names → IsPath ls i j names
 path_of (Separated.only (Name.id h)) = IsPath.last_name h
 path_of {ls = ls} {i = i} {j = j} (Separated.before {ts = names} (Name.id h) c more) =
     IsPath.more_names h c (subst (λ k. IsPath ls k j names) (plus_two i) (path_of more))
 
 -- a statement that was read, and that no `else` is missing at its end
-pub record StmtStands (ls : List Lexeme) (names : List (List ℕ)) (n i : ℕ) (q : Part Stmt) : Type 0 where
+pub record StmtStands (ls : List Terminal) (names : List (List ℕ)) (n i : ℕ) (q : Part Stmt) : Type 0 where
   pub dangling : Bool
   pub stands : IsStmt ls names n dangling i q.end q.tree
   pub closed : (dangling && is_at ls q.end lex.Else) ≡ false
 
-pub record AnyStmt (ls : List Lexeme) (names : List (List ℕ)) (n i j : ℕ) (s : Stmt) : Type 0 where
+pub record AnyStmt (ls : List Terminal) (names : List (List ℕ)) (n i j : ℕ) (s : Stmt) : Type 0 where
   pub dangling : Bool
   pub stands : IsStmt ls names n dangling i j s
 
-stmts_of_many : {ls : List Lexeme} {names : List (List ℕ)} {n i j : ℕ} {ss : List Stmt} → Many (AnyStmt ls names n) i j ss → IsStmts ls names n i j ss
+stmts_of_many : {ls : List Terminal} {names : List (List ℕ)} {n i j : ℕ} {ss : List Stmt} → Many (AnyStmt ls names n) i j ss → IsStmts ls names n i j ss
 stmts_of_many Many.end = IsStmts.no_stmt
 stmts_of_many (Many.next a more) = IsStmts.more_stmts a.stands (stmts_of_many more)
 
-citems_snoc : {ls : List Lexeme} {names : List (List ℕ)} {n d m i j k : ℕ} {cs : List Citem} {c : Citem} →
+citems_snoc : {ls : List Terminal} {names : List (List ℕ)} {n d m i j k : ℕ} {cs : List Citem} {c : Citem} →
     IsCitems ls names n d i j cs → IsCitem ls names n m j k c → IsCitems ls names n (d + m) i k (cs ++ c ∷ [])
 citems_snoc (IsCitems.last_citem a) b = IsCitems.more_citems a (IsCitems.last_citem b)
 citems_snoc {ls = ls} {names = names} {n = n} {m = m} {i = i} {k = k} {c = c} (IsCitems.more_citems {d = d} {m = p} {c = a_tree} {cs = cs} a more) b =
@@ -71,7 +71,7 @@ abbrev pub count : Bool → ℕ
 count true = 1
 count false = 0
 
-module _ (ls : List Lexeme) (names : List (List ℕ)) where
+module _ (ls : List Terminal) (names : List (List ℕ)) where
   module _ (n : ℕ) where
     made : (i : ℕ) (p q : Part Stmt) → p ≡ q → IsStmt ls names (suc n) false i p.end p.tree → StmtStands ls names (suc n) i q
     made i p q e s = subst (StmtStands ls names (suc n) i) e (record { dangling = false; stands = s; closed = refl })

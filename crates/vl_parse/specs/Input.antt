@@ -1,10 +1,10 @@
 -- What the parser sees of a text. It is this project's own.
 use Rattle.std.specs.Prelude.{ℕ, List, Option, Some, None, Bool, true, false, bytes_eq, slice_get}
-use Rattle.vl_tree.specs.declared.lexemes.Lexeme.{Lexeme}
+use Rattle.vl_tree.specs.declared.terminals.Terminal.{Terminal}
 
 -- what the tokens are for the grammar, and their spellings
 pub record Input : Type 0 where
-  pub lexemes : List Lexeme
+  pub terminals : List Terminal
   pub names : List (List ℕ)
 
 abbrev pub same_bytes : Option (List ℕ) → Option (List ℕ) → Bool

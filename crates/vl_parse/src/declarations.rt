@@ -1,6 +1,6 @@
 //! Expressions, left sides, ranges, types and local variables.
 ghost use Rattle.std.specs.Prelude.{◌≡◌, ◌<◌, ◌^◌, ◌-◌, ◌+◌, ◌*◌, length};
-ghost use Rattle.vl_tree.specs.declared.lexemes.Lexeme.TheVariants as lex;
+ghost use Rattle.vl_tree.specs.declared.terminals.Terminal.TheVariants as lex;
 ghost use Rattle.vl_expr.specs.Reading.{Gives};
 ghost use Rattle.vl_parse.specs.Parts.{separated_from};
 ghost use Rattle.vl_parse.specs.Declarations.{expr_at, exprs_at, args_at, selects_at, paren_of, value_of, binding_of, target_of, targets_of, lvalue_of, range_of, opens_range, size_of, ptype_of, names_of, opens_local, integers_of, regs_of, local_of};
@@ -11,7 +11,7 @@ use crate::lists::{Begin, Parse, optional, separated};
 use crate::part::{Part, added, single};
 use sqlite_items::Items;
 use vl_expr::{Found, ParseError};
-use vl_tree::{Binding, Expr, Lexeme, Local, Lvalue, Ptype, Range, Select};
+use vl_tree::{Binding, Expr, Local, Lvalue, Ptype, Range, Select, Terminal};
 
 /// `[ "signed" ] [ range ]`
 #[derive(Drop)]
@@ -30,42 +30,42 @@ fn bare<T: Drop>(found: Found<T>) -> Part<T>
 }
 
 pub fn expr(input: &Input<'_>, depth: u32, at: u32) -> Result<Part<Expr>, ParseError>
-    ensures { Gives result (expr_at input.now.lexemes depth at) }
+    ensures { Gives result (expr_at input.now.terminals depth at) }
 {
-    let found = vl_expr::expr_at(input.alloc(), input.lexemes(), depth, at)?;
+    let found = vl_expr::expr_at(input.alloc(), input.terminals(), depth, at)?;
     Ok(bare(found))
 }
 
 pub fn exprs(input: &Input<'_>, depth: u32, at: u32) -> Result<Part<Items<Expr>>, ParseError>
-    ensures { Gives result (exprs_at input.now.lexemes depth at) }
+    ensures { Gives result (exprs_at input.now.terminals depth at) }
 {
-    let found = vl_expr::exprs_at(input.alloc(), input.lexemes(), depth, at)?;
+    let found = vl_expr::exprs_at(input.alloc(), input.terminals(), depth, at)?;
     Ok(bare(found))
 }
 
 /// Expressions in parentheses, or none.
 pub fn args(input: &Input<'_>, depth: u32, at: u32) -> Result<Part<Items<Expr>>, ParseError>
-    ensures { Gives result (args_at input.now.lexemes depth at) }
+    ensures { Gives result (args_at input.now.terminals depth at) }
 {
-    let found = vl_expr::args_at(input.alloc(), input.lexemes(), depth, at)?;
+    let found = vl_expr::args_at(input.alloc(), input.terminals(), depth, at)?;
     Ok(bare(found))
 }
 
 fn selects(input: &Input<'_>, depth: u32, at: u32) -> Result<Part<Items<Select>>, ParseError>
-    ensures { Gives result (selects_at input.now.lexemes depth at) }
+    ensures { Gives result (selects_at input.now.terminals depth at) }
 {
-    let found = vl_expr::selects_at(input.alloc(), input.lexemes(), depth, at)?;
+    let found = vl_expr::selects_at(input.alloc(), input.terminals(), depth, at)?;
     Ok(bare(found))
 }
 
 /// An expression in parentheses, behind a keyword at this place.
 pub fn paren(input: &Input<'_>, depth: u32, at: u32) -> Result<Part<Expr>, ParseError>
     requires { at < 2 ^ 32 - 2 }
-    ensures { Gives result (paren_of input.now.lexemes depth at) }
+    ensures { Gives result (paren_of input.now.terminals depth at) }
 {
-    input.expect(at + 1, Lexeme::OpenParen)?;
+    input.expect(at + 1, Terminal::OpenParen)?;
     let inner = expr(input, depth, at + 2)?;
-    input.expect(inner.end, Lexeme::CloseParen)?;
+    input.expect(inner.end, Terminal::CloseParen)?;
     Ok(Part {
         tree: inner.tree,
         end: inner.end + 1,
@@ -74,14 +74,14 @@ pub fn paren(input: &Input<'_>, depth: u32, at: u32) -> Result<Part<Expr>, Parse
 
 /// `"=" expr`
 pub fn value(input: &Input<'_>, depth: u32, at: u32) -> Result<Part<Expr>, ParseError>
-    ensures { Gives result (value_of input.now.lexemes depth at) }
+    ensures { Gives result (value_of input.now.terminals depth at) }
 {
-    input.expect(at, Lexeme::Equals)?;
+    input.expect(at, Terminal::Equals)?;
     expr(input, depth, at + 1)
 }
 
 impl Parse for Binding {
-    ghost reading = { λ i n at. binding_of i.lexemes n at };
+    ghost reading = { λ i n at. binding_of i.terminals n at };
 
     fn parse(input: &Input<'_>, depth: u32, at: u32) -> Result<Part<Binding>, ParseError> {
         input.name(at)?;
@@ -99,7 +99,7 @@ impl Parse for Binding {
 
 /// A name with selects, on the left of an assignment.
 fn target(input: &Input<'_>, depth: u32, at: u32) -> Result<Part<Lvalue>, ParseError>
-    ensures { Gives result (target_of input.now.lexemes depth at) }
+    ensures { Gives result (target_of input.now.terminals depth at) }
 {
     input.name(at)?;
     let selects = selects(input, depth, at + 1)?;
@@ -116,12 +116,12 @@ fn target(input: &Input<'_>, depth: u32, at: u32) -> Result<Part<Lvalue>, ParseE
 /// The left side of an assignment.
 #[cycle(lvalue)]
 pub fn lvalue(input: &Input<'_>, depth: u32, at: u32) -> Result<Part<Lvalue>, ParseError>
-    ensures { Gives result (lvalue_of input.now.lexemes depth at) }
+    ensures { Gives result (lvalue_of input.now.terminals depth at) }
 {
     if depth == 0 {
         return Err(ParseError::NoTree { at });
     }
-    if input.is_at(at, Lexeme::OpenBrace) {
+    if input.is_at(at, Terminal::OpenBrace) {
         targets(input, depth - 1, at)
     } else {
         target(input, depth - 1, at)
@@ -136,11 +136,11 @@ fn further(
     first: Part<Items<Lvalue>>,
 ) -> Result<Part<Items<Lvalue>>, ParseError>
     ensures { Gives result
-        (separated_from input.now.lexemes lex.Comma (lvalue_of input.now.lexemes depth) (length input.now.lexemes) first) }
+        (separated_from input.now.terminals lex.Comma (lvalue_of input.now.terminals depth) (length input.now.terminals) first) }
 {
     let mut all = first;
     'turns: for turn in 0..input.len() {
-        if !input.is_at(all.end, Lexeme::Comma) {
+        if !input.is_at(all.end, Terminal::Comma) {
             break;
         }
         let next = lvalue(input, depth, all.end + 1)?;
@@ -153,12 +153,12 @@ fn further(
 #[cycle(lvalue)]
 fn targets(input: &Input<'_>, depth: u32, at: u32) -> Result<Part<Lvalue>, ParseError>
     requires { at < 2 ^ 32 - 2 }
-    ensures { Gives result (targets_of input.now.lexemes (lvalue_of input.now.lexemes depth) at) }
+    ensures { Gives result (targets_of input.now.terminals (lvalue_of input.now.terminals depth) at) }
 {
     let first = lvalue(input, depth, at + 1)?;
     let list = single(input.alloc(), first)?;
     let all = further(input, depth, list)?;
-    input.expect(all.end, Lexeme::CloseBrace)?;
+    input.expect(all.end, Terminal::CloseBrace)?;
     Ok(Part {
         tree: Lvalue::Concat {
             at,
@@ -169,14 +169,14 @@ fn targets(input: &Input<'_>, depth: u32, at: u32) -> Result<Part<Lvalue>, Parse
 }
 
 impl Parse for Range {
-    ghost reading = { λ i n at. range_of i.lexemes n at };
+    ghost reading = { λ i n at. range_of i.terminals n at };
 
     fn parse(input: &Input<'_>, depth: u32, at: u32) -> Result<Part<Range>, ParseError> {
-        input.expect(at, Lexeme::OpenBracket)?;
+        input.expect(at, Terminal::OpenBracket)?;
         let msb = expr(input, depth, at + 1)?;
-        input.expect(msb.end, Lexeme::Colon)?;
+        input.expect(msb.end, Terminal::Colon)?;
         let lsb = expr(input, depth, msb.end + 1)?;
-        input.expect(lsb.end, Lexeme::CloseBracket)?;
+        input.expect(lsb.end, Terminal::CloseBracket)?;
         Ok(Part {
             tree: Range {
                 at,
@@ -191,17 +191,17 @@ impl Parse for Range {
 impl Begin for Range {
     ghost opens = { opens_range };
 
-    fn begins(first: Option<Lexeme>) -> bool {
-        is(first, Lexeme::OpenBracket)
+    fn begins(first: Option<Terminal>) -> bool {
+        is(first, Terminal::OpenBracket)
     }
 }
 
 impl Parse for Size {
-    ghost reading = { λ i n at. size_of i.lexemes n at };
+    ghost reading = { λ i n at. size_of i.terminals n at };
 
     fn parse(input: &Input<'_>, depth: u32, at: u32) -> Result<Part<Size>, ParseError> {
-        let signed = input.is_at(at, Lexeme::Signed);
-        let range = optional(input, depth, input.behind(Lexeme::Signed, at))?;
+        let signed = input.is_at(at, Terminal::Signed);
+        let range = optional(input, depth, input.behind(Terminal::Signed, at))?;
         Ok(Part {
             tree: Size {
                 signed,
@@ -213,10 +213,10 @@ impl Parse for Size {
 }
 
 impl Parse for Ptype {
-    ghost reading = { λ i n at. ptype_of i.lexemes n at };
+    ghost reading = { λ i n at. ptype_of i.terminals n at };
 
     fn parse(input: &Input<'_>, depth: u32, at: u32) -> Result<Part<Ptype>, ParseError> {
-        if input.is_at(at, Lexeme::Integer) {
+        if input.is_at(at, Terminal::Integer) {
             return Ok(Part {
                 tree: Ptype::Integer { at },
                 end: at + 1,
@@ -233,17 +233,17 @@ impl Parse for Ptype {
 
 /// Names with commas between them.
 pub fn names(input: &Input<'_>, depth: u32, at: u32) -> Result<Part<Items<u32>>, ParseError>
-    ensures { Gives result (names_of input.now.lexemes at) }
+    ensures { Gives result (names_of input.now.terminals at) }
 {
-    separated(input, Lexeme::Comma, depth, at)
+    separated(input, Terminal::Comma, depth, at)
 }
 
 fn integers(input: &Input<'_>, depth: u32, at: u32) -> Result<Part<Local>, ParseError>
     requires { at < 2 ^ 32 - 2 }
-    ensures { Gives result (integers_of input.now.lexemes at) }
+    ensures { Gives result (integers_of input.now.terminals at) }
 {
     let names = names(input, depth, at + 1)?;
-    input.expect(names.end, Lexeme::Semicolon)?;
+    input.expect(names.end, Terminal::Semicolon)?;
     Ok(Part {
         tree: Local::Integer {
             at,
@@ -254,12 +254,12 @@ fn integers(input: &Input<'_>, depth: u32, at: u32) -> Result<Part<Local>, Parse
 }
 
 fn regs(input: &Input<'_>, depth: u32, at: u32) -> Result<Part<Local>, ParseError>
-    ensures { Gives result (regs_of input.now.lexemes depth at) }
+    ensures { Gives result (regs_of input.now.terminals depth at) }
 {
-    input.expect(at, Lexeme::Reg)?;
+    input.expect(at, Terminal::Reg)?;
     let size = Size::parse(input, depth, at + 1)?;
     let names = names(input, depth, size.end)?;
-    input.expect(names.end, Lexeme::Semicolon)?;
+    input.expect(names.end, Terminal::Semicolon)?;
     let Size { signed, range } = size.tree;
     Ok(Part {
         tree: Local::Reg {
@@ -273,10 +273,10 @@ fn regs(input: &Input<'_>, depth: u32, at: u32) -> Result<Part<Local>, ParseErro
 }
 
 impl Parse for Local {
-    ghost reading = { λ i n at. local_of i.lexemes n at };
+    ghost reading = { λ i n at. local_of i.terminals n at };
 
     fn parse(input: &Input<'_>, depth: u32, at: u32) -> Result<Part<Local>, ParseError> {
-        if input.is_at(at, Lexeme::Integer) {
+        if input.is_at(at, Terminal::Integer) {
             integers(input, depth, at)
         } else {
             regs(input, depth, at)
@@ -287,7 +287,7 @@ impl Parse for Local {
 impl Begin for Local {
     ghost opens = { opens_local };
 
-    fn begins(first: Option<Lexeme>) -> bool {
-        is(first, Lexeme::Reg) || is(first, Lexeme::Integer)
+    fn begins(first: Option<Terminal>) -> bool {
+        is(first, Terminal::Reg) || is(first, Terminal::Integer)
     }
 }

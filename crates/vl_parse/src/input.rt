@@ -1,7 +1,7 @@
 //! The tokens that are read.
 ghost use Rattle.std.specs.Prelude.{◌≡◌, ◌≤◌, ◌<◌, ◌^◌, ◌-◌, slice_get, length, IsTrue, OnOk, OnSome, MatchResult, true, false};
 ghost use Rattle.vl_lex.specs.Tokens.{AreSpans};
-ghost use Rattle.vl_expr.specs.Lexemes.{spellings_of};
+ghost use Rattle.vl_lex.specs.Views.{spellings_of};
 ghost use Rattle.vl_tree.specs.Places.{name_in};
 ghost use Rattle.vl_expr.specs.Classes.{is_at};
 ghost use Rattle.vl_parse.specs.Input.{Input, same_name};
@@ -9,15 +9,15 @@ ghost use Rattle.vl_parse.specs.Parts.{behind};
 
 use std::alloc::Global;
 use std::marker::Model;
-use vl_expr::{ParseError, expect, is_at, is_name, spelling};
-use vl_lex::Token;
-use vl_tree::Lexeme;
+use vl_expr::{ParseError, expect, is_at, is_name};
+use vl_lex::{Token, spelling};
+use vl_tree::Terminal;
 
 /// The tokens of a text, as the grammar sees them.
 #[derive(Drop)]
 pub struct Input<'a> {
     alloc: Global,
-    lexemes: &'a [Lexeme],
+    terminals: &'a [Terminal],
     text: &'a [u8],
     tokens: &'a [Token],
 }
@@ -25,30 +25,30 @@ pub struct Input<'a> {
 impl<'a> Model for Input<'a> {
     ghost use Rattle.std.specs.Prelude.{◌<◌, ◌^◌, ◌-◌, ◌≡◌, length};
     ghost use Rattle.vl_lex.specs.Tokens.{AreSpans};
-    ghost use Rattle.vl_expr.specs.Lexemes.{spellings_of};
+    ghost use Rattle.vl_lex.specs.Views.{spellings_of};
     ghost use Rattle.vl_parse.specs.Input.{Input};
 
     ghost Value = { Input };
 
-    ghost view = { λ i. record { lexemes = i.lexemes.now; names = spellings_of i.text.now i.tokens.now } };
+    ghost view = { λ i. record { terminals = i.terminals.now; names = spellings_of i.text.now i.tokens.now } };
 
-    ghost invariant = { λ i. AreSpans i.tokens.now (length i.text.now) × (length i.lexemes.now < 2 ^ 32 - 2) };
+    ghost invariant = { λ i. AreSpans i.tokens.now (length i.text.now) × (length i.terminals.now < 2 ^ 32 - 2) };
 }
 
 impl<'a> Input<'a> {
     pub fn new(
         alloc: Global,
-        lexemes: &'a [Lexeme],
+        terminals: &'a [Terminal],
         text: &'a [u8],
         tokens: &'a [Token],
     ) -> Input<'a>
         requires spans { AreSpans tokens.now (length text.now) }
-        requires room { length lexemes.now < 2 ^ 32 - 2 }
-        ensures { result ≡ record { lexemes = lexemes.now; names = spellings_of text.now tokens.now } }
+        requires room { length terminals.now < 2 ^ 32 - 2 }
+        ensures { result ≡ record { terminals = terminals.now; names = spellings_of text.now tokens.now } }
     {
         Input {
             alloc,
-            lexemes,
+            terminals,
             text,
             tokens,
         }
@@ -59,61 +59,61 @@ impl<'a> Input<'a> {
         self.alloc
     }
 
-    pub fn lexemes(&self) -> &[Lexeme]
-        ensures value { result.now ≡ self.now.lexemes }
+    pub fn terminals(&self) -> &[Terminal]
+        ensures value { result.now ≡ self.now.terminals }
         ensures room { length result.now < 2 ^ 32 - 2 }
     {
-        self.lexemes
+        self.terminals
     }
 
     /// How many tokens there are.
     pub fn len(&self) -> usize
-        ensures value { result ≡ length self.now.lexemes }
+        ensures value { result ≡ length self.now.terminals }
         ensures room { result < 2 ^ 32 - 2 }
     {
-        self.lexemes.len()
+        self.terminals.len()
     }
 
     /// Whether the token at a place is this one.
-    pub fn is_at(&self, at: u32, lexeme: Lexeme) -> bool
-        ensures value { result ≡ is_at self.now.lexemes at lexeme }
+    pub fn is_at(&self, at: u32, terminal: Terminal) -> bool
+        ensures value { result ≡ is_at self.now.terminals at terminal }
         ensures within { IsTrue result → at < 2 ^ 32 - 2 }
     {
-        is_at(self.lexemes, at, lexeme)
+        is_at(self.terminals, at, terminal)
     }
 
     /// The place behind a token that may be left out.
-    pub fn behind(&self, lexeme: Lexeme, at: u32) -> u32
-        ensures { result ≡ behind self.now.lexemes lexeme at }
+    pub fn behind(&self, terminal: Terminal, at: u32) -> u32
+        ensures { result ≡ behind self.now.terminals terminal at }
     {
-        if self.is_at(at, lexeme) { at + 1 } else { at }
+        if self.is_at(at, terminal) { at + 1 } else { at }
     }
 
     /// That the token at a place is this one.
-    pub fn expect(&self, at: u32, lexeme: Lexeme) -> Result<(), ParseError>
-        ensures value { MatchResult result (λ _. is_at self.now.lexemes at lexeme ≡ true)
-            (λ e. (e ≡ ParseError.NoTree at) × (is_at self.now.lexemes at lexeme ≡ false)) }
+    pub fn expect(&self, at: u32, terminal: Terminal) -> Result<(), ParseError>
+        ensures value { MatchResult result (λ _. is_at self.now.terminals at terminal ≡ true)
+            (λ e. (e ≡ ParseError.NoTree at) × (is_at self.now.terminals at terminal ≡ false)) }
         ensures within { OnOk result (at < 2 ^ 32 - 2) }
     {
-        expect(self.lexemes, at, lexeme)
+        expect(self.terminals, at, terminal)
     }
 
     /// The token at a place, or none behind the last.
-    pub fn get(&self, at: u32) -> Option<Lexeme>
-        ensures value { result ≡ slice_get self.now.lexemes at }
+    pub fn get(&self, at: u32) -> Option<Terminal>
+        ensures value { result ≡ slice_get self.now.terminals at }
         ensures within { OnSome result (at < 2 ^ 32 - 2) }
     {
-        self.lexemes.get(at as usize).copied()
+        self.terminals.get(at as usize).copied()
     }
 
     /// That the token at a place is an identifier.
     pub fn name(&self, at: u32) -> Result<(), ParseError>
-        ensures value { MatchResult result (λ _. name_in (slice_get self.now.lexemes at) ≡ true)
-            (λ e. (e ≡ ParseError.NoTree at) × (name_in (slice_get self.now.lexemes at) ≡ false)) }
+        ensures value { MatchResult result (λ _. name_in (slice_get self.now.terminals at) ≡ true)
+            (λ e. (e ≡ ParseError.NoTree at) × (name_in (slice_get self.now.terminals at) ≡ false)) }
         ensures within { OnOk result (at < 2 ^ 32 - 2) }
     {
-        match self.lexemes.get(at as usize) {
-            Some(lexeme) if is_name(*lexeme) => Ok(()),
+        match self.terminals.get(at as usize) {
+            Some(terminal) if is_name(*terminal) => Ok(()),
             _ => Err(ParseError::NoTree { at }),
         }
     }

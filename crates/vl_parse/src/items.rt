@@ -16,12 +16,12 @@ use crate::statements::stmt;
 use sqlite_items::Items;
 use vl_expr::ParseError;
 use vl_tree::{
-    Binding, Conns, Declared, Expr, Function, Import, Instance, Item, Lexeme, Named, ParamWord,
-    Ptype, Range, Rname, Task,
+    Binding, Conns, Declared, Expr, Function, Import, Instance, Item, Named, ParamWord, Ptype,
+    Range, Rname, Task, Terminal,
 };
 
 impl Parse for Declared {
-    ghost reading = { λ i n at. declared_of i.lexemes n at };
+    ghost reading = { λ i n at. declared_of i.terminals n at };
 
     fn parse(input: &Input<'_>, depth: u32, at: u32) -> Result<Part<Declared>, ParseError> {
         input.name(at)?;
@@ -39,7 +39,7 @@ impl Parse for Declared {
 
 fn memory(input: &Input<'_>, depth: u32, at: u32) -> Result<Part<Rname>, ParseError>
     requires { at < 2 ^ 32 - 2 }
-    ensures { Gives result (memory_of input.now.lexemes depth at) }
+    ensures { Gives result (memory_of input.now.terminals depth at) }
 {
     let range = Range::parse(input, depth, at + 1)?;
     Ok(Part {
@@ -54,7 +54,7 @@ fn memory(input: &Input<'_>, depth: u32, at: u32) -> Result<Part<Rname>, ParseEr
 
 fn variable(input: &Input<'_>, depth: u32, at: u32) -> Result<Part<Rname>, ParseError>
     requires { at < 2 ^ 32 - 2 }
-    ensures { Gives result (variable_of input.now.lexemes depth at) }
+    ensures { Gives result (variable_of input.now.terminals depth at) }
 {
     let value = default(input, depth, at + 1)?;
     Ok(Part {
@@ -68,11 +68,11 @@ fn variable(input: &Input<'_>, depth: u32, at: u32) -> Result<Part<Rname>, Parse
 }
 
 impl Parse for Rname {
-    ghost reading = { λ i n at. rname_of i.lexemes n at };
+    ghost reading = { λ i n at. rname_of i.terminals n at };
 
     fn parse(input: &Input<'_>, depth: u32, at: u32) -> Result<Part<Rname>, ParseError> {
         input.name(at)?;
-        if input.is_at(at + 1, Lexeme::OpenBracket) {
+        if input.is_at(at + 1, Terminal::OpenBracket) {
             memory(input, depth, at)
         } else {
             variable(input, depth, at)
@@ -83,9 +83,9 @@ impl Parse for Rname {
 /// The expression before a closing parenthesis, if there is one.
 fn optional_expr(input: &Input<'_>, depth: u32, at: u32) -> Result<Part<Option<Expr>>, ParseError>
     ensures { Gives result
-        (maybe_of input.now.lexemes opens_any (expr_at input.now.lexemes depth) at) }
+        (maybe_of input.now.terminals opens_any (expr_at input.now.terminals depth) at) }
 {
-    if input.is_at(at, Lexeme::CloseParen) {
+    if input.is_at(at, Terminal::CloseParen) {
         return Ok(absent(at));
     }
     let expr = expr(input, depth, at)?;
@@ -93,14 +93,14 @@ fn optional_expr(input: &Input<'_>, depth: u32, at: u32) -> Result<Part<Option<E
 }
 
 impl Parse for Named {
-    ghost reading = { λ i n at. named_of i.lexemes n at };
+    ghost reading = { λ i n at. named_of i.terminals n at };
 
     fn parse(input: &Input<'_>, depth: u32, at: u32) -> Result<Part<Named>, ParseError> {
-        input.expect(at, Lexeme::Dot)?;
+        input.expect(at, Terminal::Dot)?;
         input.name(at + 1)?;
-        input.expect(at + 2, Lexeme::OpenParen)?;
+        input.expect(at + 2, Terminal::OpenParen)?;
         let value = optional_expr(input, depth, at + 3)?;
-        input.expect(value.end, Lexeme::CloseParen)?;
+        input.expect(value.end, Terminal::CloseParen)?;
         Ok(Part {
             tree: Named {
                 at,
@@ -113,11 +113,11 @@ impl Parse for Named {
 }
 
 impl Parse for Conns {
-    ghost reading = { λ i n at. conns_of i.lexemes n at };
+    ghost reading = { λ i n at. conns_of i.terminals n at };
 
     fn parse(input: &Input<'_>, depth: u32, at: u32) -> Result<Part<Conns>, ParseError> {
-        if input.is_at(at, Lexeme::Dot) {
-            let named = separated(input, Lexeme::Comma, depth, at)?;
+        if input.is_at(at, Terminal::Dot) {
+            let named = separated(input, Terminal::Comma, depth, at)?;
             return Ok(Part {
                 tree: Conns::Named {
                     at,
@@ -140,9 +140,9 @@ impl Parse for Conns {
 /// The connections before a closing parenthesis, if there are any.
 fn optional_conns(input: &Input<'_>, depth: u32, at: u32) -> Result<Part<Option<Conns>>, ParseError>
     ensures { Gives result
-        (maybe_of input.now.lexemes opens_any (conns_of input.now.lexemes depth) at) }
+        (maybe_of input.now.terminals opens_any (conns_of input.now.terminals depth) at) }
 {
-    if input.is_at(at, Lexeme::CloseParen) {
+    if input.is_at(at, Terminal::CloseParen) {
         return Ok(absent(at));
     }
     let conns = Conns::parse(input, depth, at)?;
@@ -151,12 +151,12 @@ fn optional_conns(input: &Input<'_>, depth: u32, at: u32) -> Result<Part<Option<
 
 /// The parameters that instances override.
 fn overrides(input: &Input<'_>, depth: u32, at: u32) -> Result<Part<Conns>, ParseError>
-    ensures { Gives result (override_of input.now.lexemes depth at) }
+    ensures { Gives result (override_of input.now.terminals depth at) }
 {
-    input.expect(at, Lexeme::Hash)?;
-    input.expect(at + 1, Lexeme::OpenParen)?;
+    input.expect(at, Terminal::Hash)?;
+    input.expect(at + 1, Terminal::OpenParen)?;
     let conns = Conns::parse(input, depth, at + 2)?;
-    input.expect(conns.end, Lexeme::CloseParen)?;
+    input.expect(conns.end, Terminal::CloseParen)?;
     Ok(Part {
         tree: conns.tree,
         end: conns.end + 1,
@@ -169,9 +169,9 @@ fn optional_overrides(
     at: u32,
 ) -> Result<Part<Option<Conns>>, ParseError>
     ensures { Gives result
-        (maybe_of input.now.lexemes opens_params (override_of input.now.lexemes depth) at) }
+        (maybe_of input.now.terminals opens_params (override_of input.now.terminals depth) at) }
 {
-    if input.is_at(at, Lexeme::Hash) {
+    if input.is_at(at, Terminal::Hash) {
         let conns = overrides(input, depth, at)?;
         Ok(present(conns))
     } else {
@@ -180,13 +180,13 @@ fn optional_overrides(
 }
 
 impl Parse for Instance {
-    ghost reading = { λ i n at. instance_of i.lexemes n at };
+    ghost reading = { λ i n at. instance_of i.terminals n at };
 
     fn parse(input: &Input<'_>, depth: u32, at: u32) -> Result<Part<Instance>, ParseError> {
         input.name(at)?;
-        input.expect(at + 1, Lexeme::OpenParen)?;
+        input.expect(at + 1, Terminal::OpenParen)?;
         let conns = optional_conns(input, depth, at + 2)?;
-        input.expect(conns.end, Lexeme::CloseParen)?;
+        input.expect(conns.end, Terminal::CloseParen)?;
         Ok(Part {
             tree: Instance {
                 at,
@@ -205,11 +205,11 @@ fn params_item(
     word: ParamWord,
 ) -> Result<Part<Item>, ParseError>
     requires { at < 2 ^ 32 - 2 }
-    ensures { Gives result (params_item input.now.lexemes depth at word) }
+    ensures { Gives result (params_item input.now.terminals depth at word) }
 {
     let ptype = Ptype::parse(input, depth, at + 1)?;
-    let values = separated(input, Lexeme::Comma, depth, ptype.end)?;
-    input.expect(values.end, Lexeme::Semicolon)?;
+    let values = separated(input, Terminal::Comma, depth, ptype.end)?;
+    input.expect(values.end, Terminal::Semicolon)?;
     Ok(Part {
         tree: Item::Params {
             at,
@@ -223,11 +223,11 @@ fn params_item(
 
 fn wires_item(input: &Input<'_>, depth: u32, at: u32) -> Result<Part<Item>, ParseError>
     requires { at < 2 ^ 32 - 2 }
-    ensures { Gives result (wires_item input.now.lexemes depth at) }
+    ensures { Gives result (wires_item input.now.terminals depth at) }
 {
     let size = Size::parse(input, depth, at + 1)?;
-    let names = separated(input, Lexeme::Comma, depth, size.end)?;
-    input.expect(names.end, Lexeme::Semicolon)?;
+    let names = separated(input, Terminal::Comma, depth, size.end)?;
+    input.expect(names.end, Terminal::Semicolon)?;
     let Size { signed, range } = size.tree;
     Ok(Part {
         tree: Item::Wires {
@@ -242,11 +242,11 @@ fn wires_item(input: &Input<'_>, depth: u32, at: u32) -> Result<Part<Item>, Pars
 
 fn regs_item(input: &Input<'_>, depth: u32, at: u32) -> Result<Part<Item>, ParseError>
     requires { at < 2 ^ 32 - 2 }
-    ensures { Gives result (regs_item input.now.lexemes depth at) }
+    ensures { Gives result (regs_item input.now.terminals depth at) }
 {
     let size = Size::parse(input, depth, at + 1)?;
-    let names = separated(input, Lexeme::Comma, depth, size.end)?;
-    input.expect(names.end, Lexeme::Semicolon)?;
+    let names = separated(input, Terminal::Comma, depth, size.end)?;
+    input.expect(names.end, Terminal::Semicolon)?;
     let Size { signed, range } = size.tree;
     Ok(Part {
         tree: Item::Regs {
@@ -261,10 +261,10 @@ fn regs_item(input: &Input<'_>, depth: u32, at: u32) -> Result<Part<Item>, Parse
 
 fn integers_item(input: &Input<'_>, depth: u32, at: u32) -> Result<Part<Item>, ParseError>
     requires { at < 2 ^ 32 - 2 }
-    ensures { Gives result (integers_item input.now.lexemes depth at) }
+    ensures { Gives result (integers_item input.now.terminals depth at) }
 {
-    let names = separated(input, Lexeme::Comma, depth, at + 1)?;
-    input.expect(names.end, Lexeme::Semicolon)?;
+    let names = separated(input, Terminal::Comma, depth, at + 1)?;
+    input.expect(names.end, Terminal::Semicolon)?;
     Ok(Part {
         tree: Item::Integers {
             at,
@@ -276,10 +276,10 @@ fn integers_item(input: &Input<'_>, depth: u32, at: u32) -> Result<Part<Item>, P
 
 fn assigns_item(input: &Input<'_>, depth: u32, at: u32) -> Result<Part<Item>, ParseError>
     requires { at < 2 ^ 32 - 2 }
-    ensures { Gives result (assigns_item input.now.lexemes depth at) }
+    ensures { Gives result (assigns_item input.now.terminals depth at) }
 {
-    let values = separated(input, Lexeme::Comma, depth, at + 1)?;
-    input.expect(values.end, Lexeme::Semicolon)?;
+    let values = separated(input, Terminal::Comma, depth, at + 1)?;
+    input.expect(values.end, Terminal::Semicolon)?;
     Ok(Part {
         tree: Item::Assigns {
             at,
@@ -291,11 +291,11 @@ fn assigns_item(input: &Input<'_>, depth: u32, at: u32) -> Result<Part<Item>, Pa
 
 fn instances_item(input: &Input<'_>, depth: u32, at: u32) -> Result<Part<Item>, ParseError>
     requires { at < 2 ^ 32 - 2 }
-    ensures { Gives result (instances_item input.now.lexemes depth at) }
+    ensures { Gives result (instances_item input.now.terminals depth at) }
 {
     let params = optional_overrides(input, depth, at + 1)?;
-    let instances = separated(input, Lexeme::Comma, depth, params.end)?;
-    input.expect(instances.end, Lexeme::Semicolon)?;
+    let instances = separated(input, Terminal::Comma, depth, params.end)?;
+    input.expect(instances.end, Terminal::Semicolon)?;
     Ok(Part {
         tree: Item::Instances {
             at,
@@ -309,7 +309,7 @@ fn instances_item(input: &Input<'_>, depth: u32, at: u32) -> Result<Part<Item>, 
 
 fn always_item(input: &Input<'_>, depth: u32, at: u32) -> Result<Part<Item>, ParseError>
     requires { at < 2 ^ 32 - 2 }
-    ensures { Gives result (item_by input.now.lexemes input.now.names depth at start.Always) }
+    ensures { Gives result (item_by input.now.terminals input.now.names depth at start.Always) }
 {
     let body = stmt(input, depth, at + 1)?;
     Ok(Part {
@@ -323,7 +323,7 @@ fn always_item(input: &Input<'_>, depth: u32, at: u32) -> Result<Part<Item>, Par
 
 fn initial_item(input: &Input<'_>, depth: u32, at: u32) -> Result<Part<Item>, ParseError>
     requires { at < 2 ^ 32 - 2 }
-    ensures { Gives result (item_by input.now.lexemes input.now.names depth at start.Initial) }
+    ensures { Gives result (item_by input.now.terminals input.now.names depth at start.Initial) }
 {
     let body = stmt(input, depth, at + 1)?;
     Ok(Part {
@@ -336,7 +336,7 @@ fn initial_item(input: &Input<'_>, depth: u32, at: u32) -> Result<Part<Item>, Pa
 }
 
 fn task_item(input: &Input<'_>, depth: u32, at: u32) -> Result<Part<Item>, ParseError>
-    ensures { Gives result (item_by input.now.lexemes input.now.names depth at start.Task) }
+    ensures { Gives result (item_by input.now.terminals input.now.names depth at start.Task) }
 {
     let task = Task::parse(input, depth, at)?;
     Ok(Part {
@@ -349,7 +349,7 @@ fn task_item(input: &Input<'_>, depth: u32, at: u32) -> Result<Part<Item>, Parse
 }
 
 fn function_item(input: &Input<'_>, depth: u32, at: u32) -> Result<Part<Item>, ParseError>
-    ensures { Gives result (item_by input.now.lexemes input.now.names depth at start.Function) }
+    ensures { Gives result (item_by input.now.terminals input.now.names depth at start.Function) }
 {
     let function = Function::parse(input, depth, at)?;
     Ok(Part {
@@ -362,7 +362,7 @@ fn function_item(input: &Input<'_>, depth: u32, at: u32) -> Result<Part<Item>, P
 }
 
 fn import_item(input: &Input<'_>, depth: u32, at: u32) -> Result<Part<Item>, ParseError>
-    ensures { Gives result (item_by input.now.lexemes input.now.names depth at start.Import) }
+    ensures { Gives result (item_by input.now.terminals input.now.names depth at start.Import) }
 {
     let import = Import::parse(input, depth, at)?;
     Ok(Part {
@@ -375,7 +375,7 @@ fn import_item(input: &Input<'_>, depth: u32, at: u32) -> Result<Part<Item>, Par
 }
 
 impl Parse for Item {
-    ghost reading = { λ i n at. item_of i.lexemes i.names n at };
+    ghost reading = { λ i n at. item_of i.terminals i.names n at };
 
     fn parse(input: &Input<'_>, depth: u32, at: u32) -> Result<Part<Item>, ParseError> {
         match item_start_at(input, at) {
@@ -398,9 +398,9 @@ impl Parse for Item {
 impl Begin for Item {
     ghost opens = { opens_item };
 
-    fn begins(first: Option<Lexeme>) -> bool {
+    fn begins(first: Option<Terminal>) -> bool {
         match first {
-            Some(lexeme) => lexeme != Lexeme::Endmodule,
+            Some(terminal) => terminal != Terminal::Endmodule,
             None => false,
         }
     }

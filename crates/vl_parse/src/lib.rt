@@ -15,6 +15,3 @@ mod source;
 mod statements;
 
 pub use source::{one_tree, parse};
-
-#[cfg(test)]
-mod tests;

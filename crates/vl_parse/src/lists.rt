@@ -1,7 +1,7 @@
 //! Reading optional parts and lists of parts.
 ghost use Rattle.std.specs.Prelude.{◌≡◌, ◌<◌, ◌^◌, ◌-◌, ◌+◌, ℕ, List, Option, Bool, length, slice_get};
-ghost use Rattle.vl_tree.specs.declared.lexemes.Lexeme.{Lexeme};
-ghost use Rattle.vl_tree.specs.declared.lexemes.Lexeme.TheVariants as lex;
+ghost use Rattle.vl_tree.specs.declared.terminals.Terminal.{Terminal};
+ghost use Rattle.vl_tree.specs.declared.terminals.Terminal.TheVariants as lex;
 ghost use Rattle.vl_expr.specs.Reading.{Gives, Reading};
 ghost use Rattle.vl_parse.specs.Input.{Input};
 ghost use Rattle.vl_parse.specs.declared.part.Part.{Part};
@@ -11,7 +11,7 @@ use crate::input::Input;
 use crate::part::{Part, absent, added, none, present, single};
 use sqlite_items::Items;
 use vl_expr::ParseError;
-use vl_tree::Lexeme;
+use vl_tree::Terminal;
 
 /// A part of the grammar.
 pub trait Parse: Drop + Sized {
@@ -24,15 +24,15 @@ pub trait Parse: Drop + Sized {
 
 /// A part of the grammar that is known by its first token.
 pub trait Begin: Parse {
-    ghost opens: { Option Lexeme → Bool };
+    ghost opens: { Option Terminal → Bool };
 
-    fn begins(first: Option<Lexeme>) -> bool
+    fn begins(first: Option<Terminal>) -> bool
         ensures { result ≡ opens first };
 }
 
 /// A name is the number of its token.
 impl Parse for u32 {
-    ghost reading = { λ i n at. name_of i.lexemes at };
+    ghost reading = { λ i n at. name_of i.terminals at };
 
     fn parse(input: &Input<'_>, depth: u32, at: u32) -> Result<Part<u32>, ParseError> {
         input.name(at)?;
@@ -46,12 +46,12 @@ impl Parse for u32 {
 /// The other parts of a list, each behind a separator.
 fn further<T: Parse>(
     input: &Input<'_>,
-    separator: Lexeme,
+    separator: Terminal,
     depth: u32,
     first: Part<Items<T>>,
 ) -> Result<Part<Items<T>>, ParseError>
     ensures { Gives result
-        (separated_from input.now.lexemes separator (T.reading input.now depth) (length input.now.lexemes) first) }
+        (separated_from input.now.terminals separator (T.reading input.now depth) (length input.now.terminals) first) }
 {
     let mut all = first;
     'turns: for turn in 0..input.len() {
@@ -67,11 +67,11 @@ fn further<T: Parse>(
 /// One or more parts with a separator between them.
 pub fn separated<T: Parse>(
     input: &Input<'_>,
-    separator: Lexeme,
+    separator: Terminal,
     depth: u32,
     at: u32,
 ) -> Result<Part<Items<T>>, ParseError>
-    ensures { Gives result (separated_of input.now.lexemes separator (T.reading input.now depth) at) }
+    ensures { Gives result (separated_of input.now.terminals separator (T.reading input.now depth) at) }
 {
     let first = T::parse(input, depth, at)?;
     let all = single(input.alloc(), first)?;
@@ -84,18 +84,18 @@ pub fn listed<T: Parse>(
     depth: u32,
     at: u32,
 ) -> Result<Part<Items<T>>, ParseError>
-    ensures { Gives result (listed_of input.now.lexemes (T.reading input.now depth) at) }
+    ensures { Gives result (listed_of input.now.terminals (T.reading input.now depth) at) }
 {
-    if input.is_at(at, Lexeme::CloseParen) {
+    if input.is_at(at, Terminal::CloseParen) {
         Ok(none(input.alloc(), at))
     } else {
-        separated(input, Lexeme::Comma, depth, at)
+        separated(input, Terminal::Comma, depth, at)
     }
 }
 
 /// All parts that stand behind one another from a place on.
 pub fn many<T: Begin>(input: &Input<'_>, depth: u32, at: u32) -> Result<Part<Items<T>>, ParseError>
-    ensures { Gives result (many_of input.now.lexemes T.opens (T.reading input.now depth) at) }
+    ensures { Gives result (many_of input.now.terminals T.opens (T.reading input.now depth) at) }
 {
     let mut all = none(input.alloc(), at);
     'turns: for turn in 0..input.len() {
@@ -114,7 +114,7 @@ pub fn optional<T: Begin>(
     depth: u32,
     at: u32,
 ) -> Result<Part<Option<T>>, ParseError>
-    ensures { Gives result (maybe_of input.now.lexemes T.opens (T.reading input.now depth) at) }
+    ensures { Gives result (maybe_of input.now.terminals T.opens (T.reading input.now depth) at) }
 {
     if T::begins(input.get(at)) {
         let part = T::parse(input, depth, at)?;

@@ -15,13 +15,13 @@ use crate::part::{Part, absent, present};
 use crate::routines::opens_dir;
 use sqlite_items::Items;
 use vl_expr::ParseError;
-use vl_tree::{Dir, Direction, Expr, Item, Lexeme, Module, Pdecl, Port, Ptype};
+use vl_tree::{Dir, Direction, Expr, Item, Module, Pdecl, Port, Ptype, Terminal};
 
 /// The value of what is declared, if there is one.
 pub fn default(input: &Input<'_>, depth: u32, at: u32) -> Result<Part<Option<Expr>>, ParseError>
-    ensures { Gives result (default_of input.now.lexemes depth at) }
+    ensures { Gives result (default_of input.now.terminals depth at) }
 {
-    if input.is_at(at, Lexeme::Equals) {
+    if input.is_at(at, Terminal::Equals) {
         let value = value(input, depth, at)?;
         Ok(present(value))
     } else {
@@ -32,9 +32,9 @@ pub fn default(input: &Input<'_>, depth: u32, at: u32) -> Result<Part<Option<Exp
 /// The leading words of a parameter, if there are any.
 fn lead(input: &Input<'_>, depth: u32, at: u32) -> Result<Part<Option<Ptype>>, ParseError>
     ensures { Gives result
-        (maybe_of input.now.lexemes opens_lead (lead_of input.now.lexemes depth) at) }
+        (maybe_of input.now.terminals opens_lead (lead_of input.now.terminals depth) at) }
 {
-    if input.is_at(at, Lexeme::Parameter) {
+    if input.is_at(at, Terminal::Parameter) {
         let ptype = Ptype::parse(input, depth, at + 1)?;
         Ok(present(ptype))
     } else {
@@ -43,7 +43,7 @@ fn lead(input: &Input<'_>, depth: u32, at: u32) -> Result<Part<Option<Ptype>>, P
 }
 
 impl Parse for Pdecl {
-    ghost reading = { λ i n at. pdecl_of i.lexemes n at };
+    ghost reading = { λ i n at. pdecl_of i.terminals n at };
 
     fn parse(input: &Input<'_>, depth: u32, at: u32) -> Result<Part<Pdecl>, ParseError> {
         let ptype = lead(input, depth, at)?;
@@ -69,10 +69,10 @@ fn net(
     direction: Direction,
 ) -> Result<Part<Dir>, ParseError>
     requires { at < 2 ^ 32 - 2 }
-    ensures { Gives result (net_of input.now.lexemes depth at direction) }
+    ensures { Gives result (net_of input.now.terminals depth at direction) }
 {
-    let wire = input.is_at(at + 1, Lexeme::Wire);
-    let size = Size::parse(input, depth, input.behind(Lexeme::Wire, at + 1))?;
+    let wire = input.is_at(at + 1, Terminal::Wire);
+    let size = Size::parse(input, depth, input.behind(Terminal::Wire, at + 1))?;
     let Size { signed, range } = size.tree;
     Ok(Part {
         tree: Dir::Net {
@@ -89,7 +89,7 @@ fn net(
 /// The leading words of a variable's port, behind `output reg`.
 fn reg(input: &Input<'_>, depth: u32, at: u32) -> Result<Part<Dir>, ParseError>
     requires { at + 1 < 2 ^ 32 - 2 }
-    ensures { Gives result (reg_of input.now.lexemes depth at) }
+    ensures { Gives result (reg_of input.now.terminals depth at) }
 {
     let size = Size::parse(input, depth, at + 2)?;
     let Size { signed, range } = size.tree;
@@ -107,9 +107,9 @@ fn dir(
     direction: Direction,
 ) -> Result<Part<Dir>, ParseError>
     requires { at < 2 ^ 32 - 2 }
-    ensures { Gives result (dir_by input.now.lexemes depth at (Some direction)) }
+    ensures { Gives result (dir_by input.now.terminals depth at (Some direction)) }
 {
-    if input.is_at(at, Lexeme::Output) && input.is_at(at + 1, Lexeme::Reg) {
+    if input.is_at(at, Terminal::Output) && input.is_at(at + 1, Terminal::Reg) {
         reg(input, depth, at)
     } else {
         net(input, depth, at, direction)
@@ -117,7 +117,7 @@ fn dir(
 }
 
 impl Parse for Dir {
-    ghost reading = { λ i n at. dir_of i.lexemes n at };
+    ghost reading = { λ i n at. dir_of i.terminals n at };
 
     fn parse(input: &Input<'_>, depth: u32, at: u32) -> Result<Part<Dir>, ParseError> {
         match direction_at(input, at) {
@@ -130,13 +130,13 @@ impl Parse for Dir {
 impl Begin for Dir {
     ghost opens = { opens_dir };
 
-    fn begins(first: Option<Lexeme>) -> bool {
+    fn begins(first: Option<Terminal>) -> bool {
         opens_dir(first)
     }
 }
 
 impl Parse for Port {
-    ghost reading = { λ i n at. port_of i.lexemes n at };
+    ghost reading = { λ i n at. port_of i.terminals n at };
 
     fn parse(input: &Input<'_>, depth: u32, at: u32) -> Result<Part<Port>, ParseError> {
         let dir = optional(input, depth, at)?;
@@ -166,12 +166,12 @@ fn params_led(params: &[Pdecl]) -> bool
 
 /// The parameters of a module.
 fn params(input: &Input<'_>, depth: u32, at: u32) -> Result<Part<Items<Pdecl>>, ParseError>
-    ensures { Gives result (params_of input.now.lexemes depth at) }
+    ensures { Gives result (params_of input.now.terminals depth at) }
 {
-    input.expect(at, Lexeme::Hash)?;
-    input.expect(at + 1, Lexeme::OpenParen)?;
-    let params = separated(input, Lexeme::Comma, depth, at + 2)?;
-    input.expect(params.end, Lexeme::CloseParen)?;
+    input.expect(at, Terminal::Hash)?;
+    input.expect(at + 1, Terminal::OpenParen)?;
+    let params = separated(input, Terminal::Comma, depth, at + 2)?;
+    input.expect(params.end, Terminal::CloseParen)?;
     if !params_led(params.tree.as_slice()) {
         return Err(ParseError::NoTree { at: at + 2 });
     }
@@ -219,11 +219,11 @@ fn misfit(ports: &[Port]) -> Option<u32>
 
 /// The ports of a module.
 fn ports(input: &Input<'_>, depth: u32, at: u32) -> Result<Part<Items<Port>>, ParseError>
-    ensures { Gives result (ports_of input.now.lexemes depth at) }
+    ensures { Gives result (ports_of input.now.terminals depth at) }
 {
-    input.expect(at, Lexeme::OpenParen)?;
+    input.expect(at, Terminal::OpenParen)?;
     let ports = listed(input, depth, at + 1)?;
-    input.expect(ports.end, Lexeme::CloseParen)?;
+    input.expect(ports.end, Terminal::CloseParen)?;
     if !ports_led(ports.tree.as_slice()) {
         return Err(ParseError::NoTree { at: at + 1 });
     }
@@ -242,9 +242,9 @@ fn optional_params(
     at: u32,
 ) -> Result<Part<Option<Items<Pdecl>>>, ParseError>
     ensures { Gives result
-        (maybe_of input.now.lexemes opens_params (params_of input.now.lexemes depth) at) }
+        (maybe_of input.now.terminals opens_params (params_of input.now.terminals depth) at) }
 {
-    if input.is_at(at, Lexeme::Hash) {
+    if input.is_at(at, Terminal::Hash) {
         let params = params(input, depth, at)?;
         Ok(present(params))
     } else {
@@ -258,9 +258,9 @@ fn optional_ports(
     at: u32,
 ) -> Result<Part<Option<Items<Port>>>, ParseError>
     ensures { Gives result
-        (maybe_of input.now.lexemes opens_ports (ports_of input.now.lexemes depth) at) }
+        (maybe_of input.now.terminals opens_ports (ports_of input.now.terminals depth) at) }
 {
-    if input.is_at(at, Lexeme::OpenParen) {
+    if input.is_at(at, Terminal::OpenParen) {
         let ports = ports(input, depth, at)?;
         Ok(present(ports))
     } else {
@@ -270,10 +270,10 @@ fn optional_ports(
 
 /// The items of a module up to `endmodule`, and this word.
 fn items(input: &Input<'_>, depth: u32, at: u32) -> Result<Part<Items<Item>>, ParseError>
-    ensures { Gives result (items_of input.now.lexemes input.now.names depth at) }
+    ensures { Gives result (items_of input.now.terminals input.now.names depth at) }
 {
     let items = many(input, depth, at)?;
-    input.expect(items.end, Lexeme::Endmodule)?;
+    input.expect(items.end, Terminal::Endmodule)?;
     Ok(Part {
         tree: items.tree,
         end: items.end + 1,
@@ -281,14 +281,14 @@ fn items(input: &Input<'_>, depth: u32, at: u32) -> Result<Part<Items<Item>>, Pa
 }
 
 impl Parse for Module {
-    ghost reading = { λ i n at. module_of i.lexemes i.names n at };
+    ghost reading = { λ i n at. module_of i.terminals i.names n at };
 
     fn parse(input: &Input<'_>, depth: u32, at: u32) -> Result<Part<Module>, ParseError> {
-        input.expect(at, Lexeme::Module)?;
+        input.expect(at, Terminal::Module)?;
         input.name(at + 1)?;
         let params = optional_params(input, depth, at + 2)?;
         let ports = optional_ports(input, depth, params.end)?;
-        input.expect(ports.end, Lexeme::Semicolon)?;
+        input.expect(ports.end, Terminal::Semicolon)?;
         let items = items(input, depth, ports.end + 1)?;
         Ok(Part {
             tree: Module {
@@ -306,7 +306,7 @@ impl Parse for Module {
 impl Begin for Module {
     ghost opens = { opens_module };
 
-    fn begins(first: Option<Lexeme>) -> bool {
+    fn begins(first: Option<Terminal>) -> bool {
         first.is_some()
     }
 }

@@ -15,8 +15,8 @@ use crate::statements::stmt;
 use sqlite_items::Items;
 use vl_expr::ParseError;
 use vl_tree::{
-    Arg, Args, Direction, Fdir, Formal, Function, Iarg, Import, Itype, Lexeme, Local, Ptype, Rtype,
-    Task,
+    Arg, Args, Direction, Fdir, Formal, Function, Iarg, Import, Itype, Local, Ptype, Rtype, Task,
+    Terminal,
 };
 
 /// The leading words of a formal, behind `input` or `output`.
@@ -27,16 +27,16 @@ fn fdir(
     direction: Direction,
 ) -> Result<Part<Fdir>, ParseError>
     requires { at < 2 ^ 32 - 2 }
-    ensures { Gives result (fdir_by input.now.lexemes depth at (Some direction)) }
+    ensures { Gives result (fdir_by input.now.terminals depth at (Some direction)) }
 {
-    if input.is_at(at + 1, Lexeme::Integer) {
+    if input.is_at(at + 1, Terminal::Integer) {
         return Ok(Part {
             tree: Fdir::Integer { at, direction },
             end: at + 2,
         });
     }
-    let reg = input.is_at(at + 1, Lexeme::Reg);
-    let size = Size::parse(input, depth, input.behind(Lexeme::Reg, at + 1))?;
+    let reg = input.is_at(at + 1, Terminal::Reg);
+    let size = Size::parse(input, depth, input.behind(Terminal::Reg, at + 1))?;
     let Size { signed, range } = size.tree;
     Ok(Part {
         tree: Fdir::Vector {
@@ -51,7 +51,7 @@ fn fdir(
 }
 
 impl Parse for Fdir {
-    ghost reading = { λ i n at. fdir_of i.lexemes n at };
+    ghost reading = { λ i n at. fdir_of i.terminals n at };
 
     fn parse(input: &Input<'_>, depth: u32, at: u32) -> Result<Part<Fdir>, ParseError> {
         match direction_at(input, at) {
@@ -62,7 +62,7 @@ impl Parse for Fdir {
 }
 
 /// Whether a token begins the leading words of a formal or a port.
-pub fn opens_dir(first: Option<Lexeme>) -> bool
+pub fn opens_dir(first: Option<Terminal>) -> bool
     ensures { result ≡ opens_dir first }
 {
     direction(first).is_some()
@@ -71,13 +71,13 @@ pub fn opens_dir(first: Option<Lexeme>) -> bool
 impl Begin for Fdir {
     ghost opens = { opens_dir };
 
-    fn begins(first: Option<Lexeme>) -> bool {
+    fn begins(first: Option<Terminal>) -> bool {
         opens_dir(first)
     }
 }
 
 impl Parse for Formal {
-    ghost reading = { λ i n at. formal_of i.lexemes n at };
+    ghost reading = { λ i n at. formal_of i.terminals n at };
 
     fn parse(input: &Input<'_>, depth: u32, at: u32) -> Result<Part<Formal>, ParseError> {
         let fdir = optional(input, depth, at)?;
@@ -95,11 +95,11 @@ impl Parse for Formal {
 
 /// Formals of one kind.
 fn formals(input: &Input<'_>, depth: u32, at: u32) -> Result<Part<Arg>, ParseError>
-    ensures { Gives result (formals_of input.now.lexemes depth at) }
+    ensures { Gives result (formals_of input.now.terminals depth at) }
 {
     let fdir = Fdir::parse(input, depth, at)?;
     let names = names(input, depth, fdir.end)?;
-    input.expect(names.end, Lexeme::Semicolon)?;
+    input.expect(names.end, Terminal::Semicolon)?;
     Ok(Part {
         tree: Arg::Formals {
             at,
@@ -111,7 +111,7 @@ fn formals(input: &Input<'_>, depth: u32, at: u32) -> Result<Part<Arg>, ParseErr
 }
 
 impl Parse for Arg {
-    ghost reading = { λ i n at. arg_of i.lexemes n at };
+    ghost reading = { λ i n at. arg_of i.terminals n at };
 
     fn parse(input: &Input<'_>, depth: u32, at: u32) -> Result<Part<Arg>, ParseError> {
         if opens_dir(input.get(at)) {
@@ -131,7 +131,7 @@ impl Parse for Arg {
 impl Begin for Arg {
     ghost opens = { opens_arg };
 
-    fn begins(first: Option<Lexeme>) -> bool {
+    fn begins(first: Option<Terminal>) -> bool {
         opens_dir(first) || Local::begins(first)
     }
 }
@@ -149,14 +149,14 @@ fn led(formals: &[Formal]) -> bool
 /// Formals in parentheses, and local variables.
 fn listed_args(input: &Input<'_>, depth: u32, at: u32) -> Result<Part<Args>, ParseError>
     requires { at < 2 ^ 32 - 2 }
-    ensures { Gives result (listed_args input.now.lexemes depth at) }
+    ensures { Gives result (listed_args input.now.terminals depth at) }
 {
     let formals = listed(input, depth, at + 1)?;
-    input.expect(formals.end, Lexeme::CloseParen)?;
+    input.expect(formals.end, Terminal::CloseParen)?;
     if !led(formals.tree.as_slice()) {
         return Err(ParseError::NoTree { at: at + 1 });
     }
-    input.expect(formals.end + 1, Lexeme::Semicolon)?;
+    input.expect(formals.end + 1, Terminal::Semicolon)?;
     let locals = many(input, depth, formals.end + 2)?;
     Ok(Part {
         tree: Args::Listed {
@@ -170,9 +170,9 @@ fn listed_args(input: &Input<'_>, depth: u32, at: u32) -> Result<Part<Args>, Par
 
 /// Declarations of formals and local variables.
 fn declared_args(input: &Input<'_>, depth: u32, at: u32) -> Result<Part<Args>, ParseError>
-    ensures { Gives result (declared_args input.now.lexemes depth at) }
+    ensures { Gives result (declared_args input.now.terminals depth at) }
 {
-    input.expect(at, Lexeme::Semicolon)?;
+    input.expect(at, Terminal::Semicolon)?;
     let args = many(input, depth, at + 1)?;
     Ok(Part {
         tree: Args::Declared {
@@ -184,10 +184,10 @@ fn declared_args(input: &Input<'_>, depth: u32, at: u32) -> Result<Part<Args>, P
 }
 
 impl Parse for Args {
-    ghost reading = { λ i n at. args_of i.lexemes n at };
+    ghost reading = { λ i n at. args_of i.terminals n at };
 
     fn parse(input: &Input<'_>, depth: u32, at: u32) -> Result<Part<Args>, ParseError> {
-        if input.is_at(at, Lexeme::OpenParen) {
+        if input.is_at(at, Terminal::OpenParen) {
             listed_args(input, depth, at)
         } else {
             declared_args(input, depth, at)
@@ -196,14 +196,14 @@ impl Parse for Args {
 }
 
 impl Parse for Task {
-    ghost reading = { λ i n at. task_of i.lexemes i.names n at };
+    ghost reading = { λ i n at. task_of i.terminals i.names n at };
 
     fn parse(input: &Input<'_>, depth: u32, at: u32) -> Result<Part<Task>, ParseError> {
-        input.expect(at, Lexeme::Task)?;
+        input.expect(at, Terminal::Task)?;
         input.name(at + 1)?;
         let args = Args::parse(input, depth, at + 2)?;
         let body = stmt(input, depth, args.end)?;
-        input.expect(body.end, Lexeme::Endtask)?;
+        input.expect(body.end, Terminal::Endtask)?;
         Ok(Part {
             tree: Task {
                 at,
@@ -282,7 +282,7 @@ fn is_formals(arg: &Arg) -> bool
 
 /// The name and the arguments of a function.
 fn inputs(input: &Input<'_>, depth: u32, at: u32) -> Result<Part<Args>, ParseError>
-    ensures { Gives result (inputs_of input.now.lexemes depth at) }
+    ensures { Gives result (inputs_of input.now.terminals depth at) }
 {
     input.name(at)?;
     let args = Args::parse(input, depth, at + 1)?;
@@ -294,14 +294,14 @@ fn inputs(input: &Input<'_>, depth: u32, at: u32) -> Result<Part<Args>, ParseErr
 }
 
 impl Parse for Function {
-    ghost reading = { λ i n at. function_of i.lexemes i.names n at };
+    ghost reading = { λ i n at. function_of i.terminals i.names n at };
 
     fn parse(input: &Input<'_>, depth: u32, at: u32) -> Result<Part<Function>, ParseError> {
-        input.expect(at, Lexeme::Function)?;
+        input.expect(at, Terminal::Function)?;
         let ptype = Ptype::parse(input, depth, at + 1)?;
         let args = inputs(input, depth, ptype.end)?;
         let body = stmt(input, depth, args.end)?;
-        input.expect(body.end, Lexeme::Endfunction)?;
+        input.expect(body.end, Terminal::Endfunction)?;
         Ok(Part {
             tree: Function {
                 at,
@@ -317,7 +317,7 @@ impl Parse for Function {
 
 /// An integer type of an import.
 fn itype(input: &Input<'_>, at: u32) -> Result<Part<Itype>, ParseError>
-    ensures { Gives result (itype_of input.now.lexemes at) }
+    ensures { Gives result (itype_of input.now.terminals at) }
 {
     let Some(word) = int_word_at(input, at) else {
         return Err(ParseError::NoTree { at });
@@ -332,15 +332,15 @@ fn itype(input: &Input<'_>, at: u32) -> Result<Part<Itype>, ParseError>
 
 /// The type of what an import returns.
 fn rtype(input: &Input<'_>, at: u32) -> Result<Part<Rtype>, ParseError>
-    ensures { Gives result (rtype_of input.now.lexemes at) }
+    ensures { Gives result (rtype_of input.now.terminals at) }
 {
-    if input.is_at(at, Lexeme::Void) {
+    if input.is_at(at, Terminal::Void) {
         return Ok(Part {
             tree: Rtype::Void { at },
             end: at + 1,
         });
     }
-    if input.is_at(at, Lexeme::Bit) {
+    if input.is_at(at, Terminal::Bit) {
         return Ok(Part {
             tree: Rtype::Bit { at },
             end: at + 1,
@@ -364,7 +364,7 @@ fn bits(
     direction: Direction,
 ) -> Result<Part<Iarg>, ParseError>
     requires { at + 1 < 2 ^ 32 - 2 }
-    ensures { Gives result (bits_of input.now.lexemes depth at direction) }
+    ensures { Gives result (bits_of input.now.terminals depth at direction) }
 {
     let range = optional(input, depth, at + 2)?;
     input.name(range.end)?;
@@ -382,7 +382,7 @@ fn bits(
 /// An argument of an integer type.
 fn number(input: &Input<'_>, at: u32, direction: Direction) -> Result<Part<Iarg>, ParseError>
     requires { at < 2 ^ 32 - 2 }
-    ensures { Gives result (number_of input.now.lexemes at direction) }
+    ensures { Gives result (number_of input.now.terminals at direction) }
 {
     let itype = itype(input, at + 1)?;
     input.name(itype.end)?;
@@ -398,13 +398,13 @@ fn number(input: &Input<'_>, at: u32, direction: Direction) -> Result<Part<Iarg>
 }
 
 impl Parse for Iarg {
-    ghost reading = { λ i n at. iarg_of i.lexemes n at };
+    ghost reading = { λ i n at. iarg_of i.terminals n at };
 
     fn parse(input: &Input<'_>, depth: u32, at: u32) -> Result<Part<Iarg>, ParseError> {
         let Some(direction) = direction_at(input, at) else {
             return Err(ParseError::NoTree { at });
         };
-        if input.is_at(at + 1, Lexeme::Bit) {
+        if input.is_at(at + 1, Terminal::Bit) {
             bits(input, depth, at, direction)
         } else {
             number(input, at, direction)
@@ -415,12 +415,12 @@ impl Parse for Iarg {
 /// The arguments of the import whose name stands at a place, and the tokens behind them.
 fn iargs(input: &Input<'_>, depth: u32, at: u32) -> Result<Part<Items<Iarg>>, ParseError>
     requires { at < 2 ^ 32 - 2 }
-    ensures { Gives result (iargs_of input.now.lexemes depth at) }
+    ensures { Gives result (iargs_of input.now.terminals depth at) }
 {
-    input.expect(at + 1, Lexeme::OpenParen)?;
+    input.expect(at + 1, Terminal::OpenParen)?;
     let args = listed(input, depth, at + 2)?;
-    input.expect(args.end, Lexeme::CloseParen)?;
-    input.expect(args.end + 1, Lexeme::Semicolon)?;
+    input.expect(args.end, Terminal::CloseParen)?;
+    input.expect(args.end + 1, Terminal::Semicolon)?;
     Ok(Part {
         tree: args.tree,
         end: args.end + 2,
@@ -429,18 +429,18 @@ fn iargs(input: &Input<'_>, depth: u32, at: u32) -> Result<Part<Items<Iarg>>, Pa
 
 /// What stands before the type of an import, and the number of the token behind it.
 fn import_head(input: &Input<'_>, at: u32) -> Result<u32, ParseError>
-    ensures exact { Gives result (import_head input.now.lexemes at) }
+    ensures exact { Gives result (import_head input.now.terminals at) }
     ensures within { OnOk result (at + 1 < 2 ^ 32 - 2) }
 {
-    input.expect(at, Lexeme::Import)?;
-    input.expect(at + 1, Lexeme::Dpi)?;
-    let function = input.behind(Lexeme::Context, at + 2);
-    input.expect(function, Lexeme::Function)?;
+    input.expect(at, Terminal::Import)?;
+    input.expect(at + 1, Terminal::Dpi)?;
+    let function = input.behind(Terminal::Context, at + 2);
+    input.expect(function, Terminal::Function)?;
     Ok(function + 1)
 }
 
 impl Parse for Import {
-    ghost reading = { λ i n at. import_of i.lexemes n at };
+    ghost reading = { λ i n at. import_of i.terminals n at };
 
     fn parse(input: &Input<'_>, depth: u32, at: u32) -> Result<Part<Import>, ParseError> {
         let from = import_head(input, at)?;
@@ -451,7 +451,7 @@ impl Parse for Import {
             tree: Import {
                 at,
                 spec: at + 1,
-                context: input.is_at(at + 2, Lexeme::Context),
+                context: input.is_at(at + 2, Terminal::Context),
                 rtype: rtype.tree,
                 name: rtype.end,
                 args: args.tree,

@@ -12,7 +12,7 @@ use crate::lists::{Parse, many, separated};
 use crate::part::{Part, absent, boxed, present};
 use sqlite_items::{Boxed, Items};
 use vl_expr::ParseError;
-use vl_tree::{Edge, Expr, Lexeme, Lvalue, Scope, Stmt};
+use vl_tree::{Edge, Expr, Lvalue, Scope, Stmt, Terminal};
 
 /// An assignment behind its left side and `=`.
 fn blocking(
@@ -22,10 +22,10 @@ fn blocking(
     target: Part<Lvalue>,
 ) -> Result<Part<Stmt>, ParseError>
     requires { target.end < 2 ^ 32 - 2 }
-    ensures { Gives result (blocking_of input.now.lexemes depth at target) }
+    ensures { Gives result (blocking_of input.now.terminals depth at target) }
 {
     let value = expr(input, depth, target.end + 1)?;
-    input.expect(value.end, Lexeme::Semicolon)?;
+    input.expect(value.end, Terminal::Semicolon)?;
     let end = value.end + 1;
     let target = boxed(input.alloc(), target.tree)?;
     let value = boxed(input.alloc(), value.tree)?;
@@ -42,11 +42,11 @@ fn nonblocking(
     at: u32,
     target: Part<Lvalue>,
 ) -> Result<Part<Stmt>, ParseError>
-    ensures { Gives result (nonblocking_of input.now.lexemes depth at target) }
+    ensures { Gives result (nonblocking_of input.now.terminals depth at target) }
 {
-    input.expect(target.end, Lexeme::LessEqual)?;
+    input.expect(target.end, Terminal::LessEqual)?;
     let value = expr(input, depth, target.end + 1)?;
-    input.expect(value.end, Lexeme::Semicolon)?;
+    input.expect(value.end, Terminal::Semicolon)?;
     let end = value.end + 1;
     let target = boxed(input.alloc(), target.tree)?;
     let value = boxed(input.alloc(), value.tree)?;
@@ -58,10 +58,10 @@ fn nonblocking(
 
 /// An assignment.
 pub fn assign(input: &Input<'_>, depth: u32, at: u32) -> Result<Part<Stmt>, ParseError>
-    ensures { Gives result (assign_of input.now.lexemes depth at) }
+    ensures { Gives result (assign_of input.now.terminals depth at) }
 {
     let target = lvalue(input, depth, at)?;
-    if input.is_at(target.end, Lexeme::Equals) {
+    if input.is_at(target.end, Terminal::Equals) {
         blocking(input, depth, at, target)
     } else {
         nonblocking(input, depth, at, target)
@@ -74,9 +74,9 @@ fn enable_args(
     depth: u32,
     at: u32,
 ) -> Result<Part<Option<Items<Expr>>>, ParseError>
-    ensures { Gives result (maybe_of input.now.lexemes opens_args (args_at input.now.lexemes depth) at) }
+    ensures { Gives result (maybe_of input.now.terminals opens_args (args_at input.now.terminals depth) at) }
 {
-    if input.is_at(at, Lexeme::OpenParen) {
+    if input.is_at(at, Terminal::OpenParen) {
         let args = args(input, depth, at)?;
         Ok(present(args))
     } else {
@@ -87,10 +87,10 @@ fn enable_args(
 /// An enable of a task.
 fn enable(input: &Input<'_>, depth: u32, at: u32) -> Result<Part<Stmt>, ParseError>
     requires { at < 2 ^ 32 - 2 }
-    ensures { Gives result (enable_of input.now.lexemes depth at) }
+    ensures { Gives result (enable_of input.now.terminals depth at) }
 {
     let args = enable_args(input, depth, at + 1)?;
-    input.expect(args.end, Lexeme::Semicolon)?;
+    input.expect(args.end, Terminal::Semicolon)?;
     Ok(Part {
         tree: Stmt::Enable {
             at,
@@ -104,9 +104,10 @@ fn enable(input: &Input<'_>, depth: u32, at: u32) -> Result<Part<Stmt>, ParseErr
 /// A statement that begins with a name.
 pub fn named(input: &Input<'_>, depth: u32, at: u32) -> Result<Part<Stmt>, ParseError>
     requires { at < 2 ^ 32 - 2 }
-    ensures { Gives result (named_of input.now.lexemes depth at) }
+    ensures { Gives result (named_of input.now.terminals depth at) }
 {
-    let enables = input.is_at(at + 1, Lexeme::OpenParen) || input.is_at(at + 1, Lexeme::Semicolon);
+    let enables = input.is_at(at + 1, Terminal::OpenParen)
+        || input.is_at(at + 1, Terminal::Semicolon);
     if enables {
         enable(input, depth, at)
     } else {
@@ -117,10 +118,10 @@ pub fn named(input: &Input<'_>, depth: u32, at: u32) -> Result<Part<Stmt>, Parse
 /// The end of a block or task.
 pub fn disable(input: &Input<'_>, depth: u32, at: u32) -> Result<Part<Stmt>, ParseError>
     requires { at < 2 ^ 32 - 2 }
-    ensures { Gives result (disable_of input.now.lexemes at) }
+    ensures { Gives result (disable_of input.now.terminals at) }
 {
-    let path = separated(input, Lexeme::Dot, depth, at + 1)?;
-    input.expect(path.end, Lexeme::Semicolon)?;
+    let path = separated(input, Terminal::Dot, depth, at + 1)?;
+    input.expect(path.end, Terminal::Semicolon)?;
     Ok(Part {
         tree: Stmt::Disable {
             at,
@@ -148,16 +149,16 @@ fn header_end(
     test: Part<Expr>,
 ) -> Result<Part<Header>, ParseError>
     requires { test.end < 2 ^ 32 - 2 }
-    ensures { Gives result (header_end input.now.lexemes input.now.names depth at first test) }
+    ensures { Gives result (header_end input.now.terminals input.now.names depth at first test) }
 {
     let again = test.end + 1;
     input.name(again)?;
     if !input.same_name(at, again) {
         return Err(ParseError::NoTree { at: again });
     }
-    input.expect(test.end + 2, Lexeme::Equals)?;
+    input.expect(test.end + 2, Terminal::Equals)?;
     let next = expr(input, depth, test.end + 3)?;
-    input.expect(next.end, Lexeme::CloseParen)?;
+    input.expect(next.end, Terminal::CloseParen)?;
     Ok(Part {
         tree: Header {
             first,
@@ -172,23 +173,23 @@ fn header_end(
 /// The header of the `for` at a place; both names are the same.
 pub fn for_header(input: &Input<'_>, depth: u32, at: u32) -> Result<Part<Header>, ParseError>
     requires { at < 2 ^ 32 - 2 }
-    ensures { Gives result (header_of input.now.lexemes input.now.names depth at) }
+    ensures { Gives result (header_of input.now.terminals input.now.names depth at) }
 {
-    input.expect(at + 1, Lexeme::OpenParen)?;
+    input.expect(at + 1, Terminal::OpenParen)?;
     input.name(at + 2)?;
-    input.expect(at + 3, Lexeme::Equals)?;
+    input.expect(at + 3, Terminal::Equals)?;
     let first = expr(input, depth, at + 4)?;
-    input.expect(first.end, Lexeme::Semicolon)?;
+    input.expect(first.end, Terminal::Semicolon)?;
     let test = expr(input, depth, first.end + 1)?;
-    input.expect(test.end, Lexeme::Semicolon)?;
+    input.expect(test.end, Terminal::Semicolon)?;
     header_end(input, depth, at + 2, first.tree, test)
 }
 
 impl Parse for Scope {
-    ghost reading = { λ i n at. scope_of i.lexemes n at };
+    ghost reading = { λ i n at. scope_of i.terminals n at };
 
     fn parse(input: &Input<'_>, depth: u32, at: u32) -> Result<Part<Scope>, ParseError> {
-        input.expect(at, Lexeme::Colon)?;
+        input.expect(at, Terminal::Colon)?;
         input.name(at + 1)?;
         let locals = many(input, depth, at + 2)?;
         Ok(Part {
@@ -208,9 +209,9 @@ pub fn scope(
     depth: u32,
     at: u32,
 ) -> Result<Part<Option<Boxed<Scope>>>, ParseError>
-    ensures { Gives result (maybe_of input.now.lexemes opens_scope (scope_of input.now.lexemes depth) at) }
+    ensures { Gives result (maybe_of input.now.terminals opens_scope (scope_of input.now.terminals depth) at) }
 {
-    if !input.is_at(at, Lexeme::Colon) {
+    if !input.is_at(at, Terminal::Colon) {
         return Ok(absent(at));
     }
     let scope = Scope::parse(input, depth, at)?;
@@ -224,14 +225,14 @@ pub fn scope(
 /// The edge of a clock, in parentheses with the clock's name, behind the `@` at a place; these are four tokens.
 pub fn clock(input: &Input<'_>, at: u32) -> Result<Edge, ParseError>
     requires { at < 2 ^ 32 - 2 }
-    ensures exact { Gives result (clock_of input.now.lexemes at) }
+    ensures exact { Gives result (clock_of input.now.terminals at) }
     ensures within { OnOk result (at + 4 < 2 ^ 32 - 2) }
 {
-    input.expect(at + 1, Lexeme::OpenParen)?;
+    input.expect(at + 1, Terminal::OpenParen)?;
     let Some(edge) = edge_at(input, at + 2) else {
         return Err(ParseError::NoTree { at: at + 2 });
     };
     input.name(at + 3)?;
-    input.expect(at + 4, Lexeme::CloseParen)?;
+    input.expect(at + 4, Terminal::CloseParen)?;
     Ok(edge)
 }

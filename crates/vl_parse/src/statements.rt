@@ -3,7 +3,7 @@ ghost use Rattle.std.specs.Prelude.{◌≡◌, ◌<◌, ◌^◌, ◌-◌, ◌+�
 ghost use Rattle.vl_expr.specs.Reading.{Gives};
 ghost use Rattle.vl_expr.specs.Classes.{is_at};
 ghost use Rattle.vl_parse.specs.Parts.{many_of};
-ghost use Rattle.vl_tree.specs.declared.lexemes.Lexeme.TheVariants as lex;
+ghost use Rattle.vl_tree.specs.declared.terminals.Terminal.TheVariants as lex;
 ghost use Rattle.vl_parse.specs.Statements.{opens_stmt, opening_of, else_of, if_of, default_of, labels_of, citem_of, next_citem, opens_citem, citems_from, citems_of, case_of, for_of, while_of, repeat_of, forever_of, block_of, wait_of, stmt_by, stmt_of};
 
 use crate::classes::{Opening, opening_at};
@@ -15,12 +15,12 @@ use crate::part::{Part, added, boxed, none, single};
 use crate::simple::{assign, clock, disable, for_header, named, scope};
 use sqlite_items::Items;
 use vl_expr::ParseError;
-use vl_tree::{Citem, Expr, Lexeme, Stmt};
+use vl_tree::{Citem, Expr, Stmt, Terminal};
 
 /// The statement that begins at a place and is not deeper than `depth`.
 #[cycle(statement)]
 pub fn stmt(input: &Input<'_>, depth: u32, at: u32) -> Result<Part<Stmt>, ParseError>
-    ensures { Gives result (stmt_of input.now.lexemes input.now.names depth at) }
+    ensures { Gives result (stmt_of input.now.terminals input.now.names depth at) }
 {
     if depth == 0 {
         return Err(ParseError::NoTree { at });
@@ -36,7 +36,7 @@ pub fn stmt(input: &Input<'_>, depth: u32, at: u32) -> Result<Part<Stmt>, ParseE
 fn opened(input: &Input<'_>, depth: u32, at: u32, first: Opening) -> Result<Part<Stmt>, ParseError>
     requires { at < 2 ^ 32 - 2 }
     ensures { Gives result
-        (stmt_by input.now.lexemes input.now.names (stmt_of input.now.lexemes input.now.names depth) depth at first) }
+        (stmt_by input.now.terminals input.now.names (stmt_of input.now.terminals input.now.names depth) depth at first) }
 {
     match first {
         Opening::Null => Ok(Part {
@@ -62,7 +62,7 @@ fn opened(input: &Input<'_>, depth: u32, at: u32, first: Opening) -> Result<Part
 fn if_at(input: &Input<'_>, depth: u32, at: u32) -> Result<Part<Stmt>, ParseError>
     requires { at < 2 ^ 32 - 2 }
     ensures { Gives result
-        (if_of input.now.lexemes (stmt_of input.now.lexemes input.now.names depth) depth at) }
+        (if_of input.now.terminals (stmt_of input.now.terminals input.now.names depth) depth at) }
 {
     let test = paren(input, depth, at)?;
     let first = stmt(input, depth, test.end)?;
@@ -79,9 +79,9 @@ fn else_at(
     first: Part<Stmt>,
 ) -> Result<Part<Stmt>, ParseError>
     ensures { Gives result
-        (else_of input.now.lexemes (stmt_of input.now.lexemes input.now.names depth) at test first) }
+        (else_of input.now.terminals (stmt_of input.now.terminals input.now.names depth) at test first) }
 {
-    if !input.is_at(first.end, Lexeme::Else) {
+    if !input.is_at(first.end, Terminal::Else) {
         return if_alone(input.alloc(), at, test, first);
     }
     let second = stmt(input, depth, first.end + 1)?;
@@ -92,10 +92,10 @@ fn else_at(
 fn default_at(input: &Input<'_>, depth: u32, at: u32) -> Result<Part<Citem>, ParseError>
     requires { at < 2 ^ 32 - 2 }
     ensures { Gives result
-        (default_of input.now.lexemes (stmt_of input.now.lexemes input.now.names depth) at) }
+        (default_of input.now.terminals (stmt_of input.now.terminals input.now.names depth) at) }
 {
-    let colon = input.is_at(at + 1, Lexeme::Colon);
-    let body = stmt(input, depth, input.behind(Lexeme::Colon, at + 1))?;
+    let colon = input.is_at(at + 1, Terminal::Colon);
+    let body = stmt(input, depth, input.behind(Terminal::Colon, at + 1))?;
     Ok(Part {
         tree: Citem::Default {
             at,
@@ -109,10 +109,10 @@ fn default_at(input: &Input<'_>, depth: u32, at: u32) -> Result<Part<Citem>, Par
 #[cycle(statement)]
 fn labels_at(input: &Input<'_>, depth: u32, at: u32) -> Result<Part<Citem>, ParseError>
     ensures { Gives result
-        (labels_of input.now.lexemes (stmt_of input.now.lexemes input.now.names depth) depth at) }
+        (labels_of input.now.terminals (stmt_of input.now.terminals input.now.names depth) depth at) }
 {
     let labels = exprs(input, depth, at)?;
-    input.expect(labels.end, Lexeme::Colon)?;
+    input.expect(labels.end, Terminal::Colon)?;
     let body = stmt(input, depth, labels.end + 1)?;
     Ok(Part {
         tree: Citem::Labels {
@@ -127,9 +127,9 @@ fn labels_at(input: &Input<'_>, depth: u32, at: u32) -> Result<Part<Citem>, Pars
 #[cycle(statement)]
 fn citem_at(input: &Input<'_>, depth: u32, at: u32) -> Result<Part<Citem>, ParseError>
     ensures { Gives result
-        (citem_of input.now.lexemes (stmt_of input.now.lexemes input.now.names depth) depth at) }
+        (citem_of input.now.terminals (stmt_of input.now.terminals input.now.names depth) depth at) }
 {
-    if input.is_at(at, Lexeme::Default) {
+    if input.is_at(at, Terminal::Default) {
         default_at(input, depth, at)
     } else {
         labels_at(input, depth, at)
@@ -145,9 +145,9 @@ fn next_citem(
     defaulted: bool,
 ) -> Result<Part<Citem>, ParseError>
     ensures { Gives result
-        (next_citem input.now.lexemes (stmt_of input.now.lexemes input.now.names depth) depth defaulted at) }
+        (next_citem input.now.terminals (stmt_of input.now.terminals input.now.names depth) depth defaulted at) }
 {
-    if defaulted && input.is_at(at, Lexeme::Default) {
+    if defaulted && input.is_at(at, Terminal::Default) {
         Err(ParseError::NoTree { at })
     } else {
         citem_at(input, depth, at)
@@ -163,7 +163,7 @@ fn further_citems(
     first: Part<Items<Citem>>,
 ) -> Result<Part<Items<Citem>>, ParseError>
     ensures { Gives result
-        (citems_from input.now.lexemes (stmt_of input.now.lexemes input.now.names depth) depth (length input.now.lexemes)
+        (citems_from input.now.terminals (stmt_of input.now.terminals input.now.names depth) depth (length input.now.terminals)
         had_default first) }
 {
     let mut all = first;
@@ -173,7 +173,7 @@ fn further_citems(
             break;
         }
         let next = next_citem(input, depth, all.end, defaulted)?;
-        defaulted |= input.is_at(all.end, Lexeme::Default);
+        defaulted |= input.is_at(all.end, Terminal::Default);
         all = added(all, next)?;
     }
     Ok(all)
@@ -183,22 +183,22 @@ fn further_citems(
 #[cycle(statement)]
 fn citems_at(input: &Input<'_>, depth: u32, at: u32) -> Result<Part<Items<Citem>>, ParseError>
     ensures { Gives result
-        (citems_of input.now.lexemes (stmt_of input.now.lexemes input.now.names depth) depth at) }
+        (citems_of input.now.terminals (stmt_of input.now.terminals input.now.names depth) depth at) }
 {
     let first = citem_at(input, depth, at)?;
     let all = single(input.alloc(), first)?;
-    further_citems(input, depth, input.is_at(at, Lexeme::Default), all)
+    further_citems(input, depth, input.is_at(at, Terminal::Default), all)
 }
 
 #[cycle(statement)]
 fn case_at(input: &Input<'_>, depth: u32, at: u32) -> Result<Part<Stmt>, ParseError>
     requires { at < 2 ^ 32 - 2 }
     ensures { Gives result
-        (case_of input.now.lexemes (stmt_of input.now.lexemes input.now.names depth) depth at) }
+        (case_of input.now.terminals (stmt_of input.now.terminals input.now.names depth) depth at) }
 {
     let on = paren(input, depth, at)?;
     let items = citems_at(input, depth, on.end)?;
-    input.expect(items.end, Lexeme::Endcase)?;
+    input.expect(items.end, Terminal::Endcase)?;
     let on = boxed(input.alloc(), on.tree)?;
     Ok(Part {
         tree: Stmt::Case {
@@ -214,7 +214,7 @@ fn case_at(input: &Input<'_>, depth: u32, at: u32) -> Result<Part<Stmt>, ParseEr
 fn for_at(input: &Input<'_>, depth: u32, at: u32) -> Result<Part<Stmt>, ParseError>
     requires { at < 2 ^ 32 - 2 }
     ensures { Gives result
-        (for_of input.now.lexemes input.now.names (stmt_of input.now.lexemes input.now.names depth) depth at) }
+        (for_of input.now.terminals input.now.names (stmt_of input.now.terminals input.now.names depth) depth at) }
 {
     let header = for_header(input, depth, at)?;
     let body = stmt(input, depth, header.end)?;
@@ -225,7 +225,7 @@ fn for_at(input: &Input<'_>, depth: u32, at: u32) -> Result<Part<Stmt>, ParseErr
 fn while_at(input: &Input<'_>, depth: u32, at: u32) -> Result<Part<Stmt>, ParseError>
     requires { at < 2 ^ 32 - 2 }
     ensures { Gives result
-        (while_of input.now.lexemes (stmt_of input.now.lexemes input.now.names depth) depth at) }
+        (while_of input.now.terminals (stmt_of input.now.terminals input.now.names depth) depth at) }
 {
     let test = paren(input, depth, at)?;
     let body = stmt(input, depth, test.end)?;
@@ -236,7 +236,7 @@ fn while_at(input: &Input<'_>, depth: u32, at: u32) -> Result<Part<Stmt>, ParseE
 fn repeat_at(input: &Input<'_>, depth: u32, at: u32) -> Result<Part<Stmt>, ParseError>
     requires { at < 2 ^ 32 - 2 }
     ensures { Gives result
-        (repeat_of input.now.lexemes (stmt_of input.now.lexemes input.now.names depth) depth at) }
+        (repeat_of input.now.terminals (stmt_of input.now.terminals input.now.names depth) depth at) }
 {
     let count = paren(input, depth, at)?;
     let body = stmt(input, depth, count.end)?;
@@ -246,7 +246,7 @@ fn repeat_at(input: &Input<'_>, depth: u32, at: u32) -> Result<Part<Stmt>, Parse
 #[cycle(statement)]
 fn forever_at(input: &Input<'_>, depth: u32, at: u32) -> Result<Part<Stmt>, ParseError>
     requires { at < 2 ^ 32 - 2 }
-    ensures { Gives result (forever_of (stmt_of input.now.lexemes input.now.names depth) at) }
+    ensures { Gives result (forever_of (stmt_of input.now.terminals input.now.names depth) at) }
 {
     let body = stmt(input, depth, at + 1)?;
     forever_node(input.alloc(), at, body)
@@ -256,7 +256,7 @@ fn forever_at(input: &Input<'_>, depth: u32, at: u32) -> Result<Part<Stmt>, Pars
 #[cycle(statement)]
 fn stmts_at(input: &Input<'_>, depth: u32, at: u32) -> Result<Part<Items<Stmt>>, ParseError>
     ensures { Gives result
-        (many_of input.now.lexemes opens_stmt (stmt_of input.now.lexemes input.now.names depth) at) }
+        (many_of input.now.terminals opens_stmt (stmt_of input.now.terminals input.now.names depth) at) }
 {
     let mut all = none(input.alloc(), at);
     'turns: for turn in 0..input.len() {
@@ -273,11 +273,11 @@ fn stmts_at(input: &Input<'_>, depth: u32, at: u32) -> Result<Part<Items<Stmt>>,
 fn block_at(input: &Input<'_>, depth: u32, at: u32) -> Result<Part<Stmt>, ParseError>
     requires { at < 2 ^ 32 - 2 }
     ensures { Gives result
-        (block_of input.now.lexemes (stmt_of input.now.lexemes input.now.names depth) depth at) }
+        (block_of input.now.terminals (stmt_of input.now.terminals input.now.names depth) depth at) }
 {
     let scope = scope(input, depth, at + 1)?;
     let body = stmts_at(input, depth, scope.end)?;
-    input.expect(body.end, Lexeme::End)?;
+    input.expect(body.end, Terminal::End)?;
     Ok(Part {
         tree: Stmt::Block {
             at,
@@ -292,7 +292,7 @@ fn block_at(input: &Input<'_>, depth: u32, at: u32) -> Result<Part<Stmt>, ParseE
 fn wait_at(input: &Input<'_>, depth: u32, at: u32) -> Result<Part<Stmt>, ParseError>
     requires { at < 2 ^ 32 - 2 }
     ensures { Gives result
-        (wait_of input.now.lexemes (stmt_of input.now.lexemes input.now.names depth) at) }
+        (wait_of input.now.terminals (stmt_of input.now.terminals input.now.names depth) at) }
 {
     let edge = clock(input, at)?;
     let body = stmt(input, depth, at + 5)?;
@@ -300,7 +300,7 @@ fn wait_at(input: &Input<'_>, depth: u32, at: u32) -> Result<Part<Stmt>, ParseEr
 }
 
 impl Parse for Stmt {
-    ghost reading = { λ i n at. stmt_of i.lexemes i.names n at };
+    ghost reading = { λ i n at. stmt_of i.terminals i.names n at };
 
     fn parse(input: &Input<'_>, depth: u32, at: u32) -> Result<Part<Stmt>, ParseError> {
         stmt(input, depth, at)
@@ -308,21 +308,21 @@ impl Parse for Stmt {
 }
 
 /// Whether a token may begin a statement of a block.
-fn opens_stmt(first: Option<Lexeme>) -> bool
+fn opens_stmt(first: Option<Terminal>) -> bool
     ensures { result ≡ opens_stmt first }
 {
     match first {
-        Some(lexeme) => lexeme != Lexeme::End,
+        Some(terminal) => terminal != Terminal::End,
         None => false,
     }
 }
 
 /// Whether a token may begin a case item.
-fn opens_citem(first: Option<Lexeme>) -> bool
+fn opens_citem(first: Option<Terminal>) -> bool
     ensures { result ≡ opens_citem first }
 {
     match first {
-        Some(lexeme) => lexeme != Lexeme::Endcase,
+        Some(terminal) => terminal != Terminal::Endcase,
         None => false,
     }
 }

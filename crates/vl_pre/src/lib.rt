@@ -27,6 +27,3 @@ pub use directives::is_directive;
 pub use faults::PreFault;
 pub use source::expand;
 pub use text::Text;
-
-#[cfg(test)]
-mod tests;

@@ -6,3 +6,8 @@ pub mod Declarations
 pub mod Statements
 pub mod Routines
 pub mod Modules
+pub mod Begins
+pub mod Words
+pub mod Arguments
+pub mod Targets
+pub mod Names

@@ -1,14 +1,14 @@
 -- Operators and their layers (IEEE 1364-2005, table 5-4).
 use Rattle.std.specs.Prelude.{ℕ, Option, Some, None}
-use Rattle.vl_tree.specs.declared.lexemes.Lexeme.{Lexeme}
-use Rattle.vl_tree.specs.declared.lexemes.Lexeme.TheVariants as lex
+use Rattle.vl_tree.specs.declared.terminals.Terminal.{Terminal}
+use Rattle.vl_tree.specs.declared.terminals.Terminal.TheVariants as lex
 use Rattle.vl_tree.specs.declared.operators.UnOp.{UnOp}
 use Rattle.vl_tree.specs.declared.operators.UnOp.TheVariants as un
 use Rattle.vl_tree.specs.declared.operators.BinOp.{BinOp}
 use Rattle.vl_tree.specs.declared.operators.BinOp.TheVariants as bin
 
 -- the operator that a token is before an operand
-abbrev pub unary : Lexeme → Option UnOp
+abbrev pub unary : Terminal → Option UnOp
 unary lex.Plus = Some un.Plus
 unary lex.Minus = Some un.Minus
 unary lex.Bang = Some un.Not
@@ -22,7 +22,7 @@ unary lex.TildeCaret = Some un.Xnor
 unary _ = None
 
 -- the operator that a token is between operands, and its layer: 1 is the tightest
-abbrev pub binary : Lexeme → Option (ℕ × BinOp)
+abbrev pub binary : Terminal → Option (ℕ × BinOp)
 binary lex.Star = Some (1, bin.Mul)
 binary lex.Slash = Some (1, bin.Div)
 binary lex.Percent = Some (1, bin.Rem)

@@ -1,7 +1,7 @@
 -- Statements (IEEE 1364-2005, A.6).
 use Rattle.std.specs.Prelude.{◌≡◌, ◌≤◌, ℕ, suc, ◌+◌, List, [], ◌∷◌, Option, Some, None, Bool, true, false, slice_get}
-use Rattle.vl_tree.specs.declared.lexemes.Lexeme.{Lexeme}
-use Rattle.vl_tree.specs.declared.lexemes.Lexeme.TheVariants as lex
+use Rattle.vl_tree.specs.declared.terminals.Terminal.{Terminal}
+use Rattle.vl_tree.specs.declared.terminals.Terminal.TheVariants as lex
 use Rattle.vl_tree.specs.declared.exprs.Expr.{Expr}
 use Rattle.vl_tree.specs.declared.exprs.Lvalue.{Lvalue}
 use Rattle.vl_tree.specs.declared.routines.Local.{Local}
@@ -18,26 +18,26 @@ use Rattle.vl_tree.specs.Expressions.{IsExpr, IsExprs, IsArgs, IsLvalue}
 use Rattle.vl_tree.specs.Declarations.{IsLocal}
 
 -- names joined by dots: ID { "." ID }
-pub data IsPath (ls : List Lexeme) : ℕ → ℕ → List ℕ → Type 0 where
+pub data IsPath (ls : List Terminal) : ℕ → ℕ → List ℕ → Type 0 where
   last_name : {i : ℕ} → IsName ls i → IsPath ls i (i + 1) (i ∷ [])
   more_names : {i j : ℕ} {names : List ℕ} →
       IsName ls i → At ls (i + 1) lex.Dot → IsPath ls (i + 2) j names → IsPath ls i j (i ∷ names)
 
 -- ":" ID { local }
-pub data IsScope (ls : List Lexeme) (n : ℕ) : ℕ → ℕ → Scope → Type 0 where
+pub data IsScope (ls : List Terminal) (n : ℕ) : ℕ → ℕ → Scope → Type 0 where
   scope : {i j : ℕ} {locals : List Local} →
       At ls i lex.Colon → IsName ls (i + 1) → Many (IsLocal ls n) (i + 2) j locals →
       IsScope ls n i j (record { at = i; name = i + 1; locals = locals })
 
 -- "posedge" | "negedge"
-pub data IsEdge (ls : List Lexeme) : ℕ → ℕ → Edge → Type 0 where
+pub data IsEdge (ls : List Terminal) : ℕ → ℕ → Edge → Type 0 where
   posedge : {i : ℕ} → At ls i lex.Posedge → IsEdge ls i (i + 1) edge.Posedge
   negedge : {i : ℕ} → At ls i lex.Negedge → IsEdge ls i (i + 1) edge.Negedge
 
 -- In these relations names are the spellings of the tokens. The truth value of a statement says whether it ends in an
 -- `if` without `else`. The number of case items is that of the defaults among them.
 mutual
-  pub data IsStmt (ls : List Lexeme) (names : List (List ℕ)) : ℕ → Bool → ℕ → ℕ → Stmt → Type 0 where
+  pub data IsStmt (ls : List Terminal) (names : List (List ℕ)) : ℕ → Bool → ℕ → ℕ → Stmt → Type 0 where
     -- ";"
     null : {n i : ℕ} → At ls i lex.Semicolon → IsStmt ls names (suc n) false i (i + 1) (stmt.Null i)
     -- lvalue "=" expr ";"
@@ -100,19 +100,19 @@ mutual
         IsStmt ls names (suc n) false i (j + 1) (stmt.Disable i path)
 
   -- { stmt }
-  pub data IsStmts (ls : List Lexeme) (names : List (List ℕ)) : ℕ → ℕ → ℕ → List Stmt → Type 0 where
+  pub data IsStmts (ls : List Terminal) (names : List (List ℕ)) : ℕ → ℕ → ℕ → List Stmt → Type 0 where
     no_stmt : {n i : ℕ} → IsStmts ls names n i i []
     more_stmts : {n i j k : ℕ} {dangling : Bool} {s : Stmt} {ss : List Stmt} →
         IsStmt ls names n dangling i j s → IsStmts ls names n j k ss → IsStmts ls names n i k (s ∷ ss)
 
   -- citem { citem }
-  pub data IsCitems (ls : List Lexeme) (names : List (List ℕ)) : ℕ → ℕ → ℕ → ℕ → List Citem → Type 0 where
+  pub data IsCitems (ls : List Terminal) (names : List (List ℕ)) : ℕ → ℕ → ℕ → ℕ → List Citem → Type 0 where
     last_citem : {n d i j : ℕ} {c : Citem} → IsCitem ls names n d i j c → IsCitems ls names n d i j (c ∷ [])
     more_citems : {n d m i j k : ℕ} {c : Citem} {cs : List Citem} →
         IsCitem ls names n d i j c → IsCitems ls names n m j k cs → IsCitems ls names n (d + m) i k (c ∷ cs)
 
   -- citem = expr { "," expr } ":" stmt | "default" [ ":" ] stmt
-  pub data IsCitem (ls : List Lexeme) (names : List (List ℕ)) : ℕ → ℕ → ℕ → ℕ → Citem → Type 0 where
+  pub data IsCitem (ls : List Terminal) (names : List (List ℕ)) : ℕ → ℕ → ℕ → ℕ → Citem → Type 0 where
     labels : {n i j k : ℕ} {dangling : Bool} {es : List Expr} {s : Stmt} →
         IsExprs ls n i j es → At ls j lex.Colon → IsStmt ls names n dangling (j + 1) k s →
         IsCitem ls names n 0 i k (citem.Labels i es s)

@@ -4,15 +4,20 @@
 //! number of its token.
 #![tactic(auto)]
 
+mod argument_list;
+mod begins;
 mod exprs;
-mod lexemes;
+mod laws;
 mod modules;
 mod operators;
 mod routines;
 mod statements;
+mod terminals;
+mod words;
 
+pub use argument_list::{Argument, arguments};
 pub use exprs::{Expr, Lvalue, Select};
-pub use lexemes::Lexeme;
+pub use laws::numbers_are_tokens;
 pub use modules::{
     Binding, Conns, Declared, Dir, Direction, Instance, Item, Module, Named, ParamWord, Pdecl,
     Port, Ptype, Range, Rname, Tree,
@@ -22,3 +27,4 @@ pub use routines::{
     Arg, Args, Fdir, Formal, Function, Iarg, Import, IntWord, Itype, Local, Rtype, Task,
 };
 pub use statements::{Citem, Edge, Scope, Stmt};
+pub use terminals::Terminal;

@@ -5,5 +5,5 @@ use Rattle.vl_expr.proofs.parse.told.Goals as goal
 pub returns-in-Ok : goal.returns-in-Ok
 returns-in-Ok c = (
   c.in-Ok.found.depth,
-  ap (λ ls. whole_of ls c.args.depth c.args.at) (sym (c.as_slice.ensures.value ∙ c.in_ok-lexemes.ensures.each)) ∙ c.in-Ok.ensures,
+  ap (λ ls. whole_of ls c.args.depth c.args.at) (sym (c.as_slice.ensures.value ∙ c.in_ok-terminals.ensures.each)) ∙ c.in-Ok.ensures,
 )

@@ -7,14 +7,14 @@ use Rattle.vl_expr.proofs.reader.+expr.Goals as goal
 
 pub level_at-returns-clause-exact : goal.level_at-returns-clause-exact
 level_at-returns-clause-exact t c =
-    level_up c.args.lexemes.now (reader_of c.args.lexemes.now c.args.depth) c.args.depth c.args.level c.args.at c.in_ok-left.left c.rest_at.result
+    level_up c.args.terminals.now (reader_of c.args.terminals.now c.args.depth) c.args.depth c.args.level c.args.at c.in_ok-left.left c.rest_at.result
     c.if-level-eq0.false c.in_ok-left.ensures.exact c.rest_at.ensures.exact
 
 pub tail_at-turns-preserved : goal.tail_at-turns-preserved
 tail_at-turns-preserved t c = record {
   shallow = c.in_ok-left-in-Some.ensures.fits;
   gives = c.turns.invariant.gives
-      ∙ tail_more c.args.lexemes.now (reader_of c.args.lexemes.now c.args.depth) c.args.depth c.args.level c.args.from c.turns.turn c.args.depth
+      ∙ tail_more c.args.terminals.now (reader_of c.args.terminals.now c.args.depth) c.args.depth c.args.level c.args.from c.turns.turn c.args.depth
       c.turns.left c.in_ok-left-in-Some.left c.in-Some.op c.turns-test.true (sym c.in-Some.ensures.value) c.in_ok-left-in-Some.ensures.exact;
 }
 
@@ -23,7 +23,7 @@ tail_at-returns-in_err-left-in-Some-clause-exact t c =
     let p = err_from_is_err_and c.from_residual.result c.from_residual.ensures.1 in
     rw (p.1, p.2)
     (gives_along (Err c.in_err-left-in-Some.field-0.0) _ _ c.turns.invariant.gives
-    (tail_stuck c.args.lexemes.now (reader_of c.args.lexemes.now c.args.depth) c.args.depth c.args.level c.args.from c.turns.turn c.args.depth
+    (tail_stuck c.args.terminals.now (reader_of c.args.terminals.now c.args.depth) c.args.depth c.args.level c.args.from c.turns.turn c.args.depth
     c.turns.left c.in-Some.op _ c.turns-test.true (sym c.in-Some.ensures.value) c.in_err-left-in-Some.ensures.exact))
 
 pub exprs_behind-turns-preserved : goal.exprs_behind-turns-preserved
@@ -35,7 +35,7 @@ exprs_behind-turns-preserved t c =
     record {
       shallow = rw deep (omega arith);
       gives = c.turns.invariant.gives
-          ∙ exprs_more c.args.lexemes.now (reader_of c.args.lexemes.now c.args.depth) c.turns.turn (length c.args.lexemes.now)
+          ∙ exprs_more c.args.terminals.now (reader_of c.args.terminals.now c.args.depth) c.turns.turn (length c.args.terminals.now)
           c.turns.all c.in_ok-all.all c.in_ok-next.next c.turns-test.true (sym c.is_at.ensures.value ∙ c.if-not-is_at.false) c.in_ok-next.ensures.exact is;
     }
 
@@ -44,5 +44,5 @@ exprs_behind-returns-in_err-next-clause-exact t c =
     let p = err_from_is_err_and c.from_residual.result c.from_residual.ensures.1 in
     rw (p.1, p.2)
     (gives_along (Err c.in_err-next.field-0.0) _ _ c.turns.invariant.gives
-    (exprs_stuck c.args.lexemes.now (reader_of c.args.lexemes.now c.args.depth) c.turns.turn (length c.args.lexemes.now)
+    (exprs_stuck c.args.terminals.now (reader_of c.args.terminals.now c.args.depth) c.turns.turn (length c.args.terminals.now)
     c.turns.all _ c.turns-test.true (sym c.is_at.ensures.value ∙ c.if-not-is_at.false) c.in_err-next.ensures.exact))

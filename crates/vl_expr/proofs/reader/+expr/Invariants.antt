@@ -25,6 +25,9 @@ decreases-exprs_behind l = 32 * l.depth + 1
 abbrev pub decreases-exprs_at : goal.decreases-exprs_at
 decreases-exprs_at l = 32 * l.depth + 2
 
+abbrev pub decreases-args_at : goal.decreases-args_at
+decreases-args_at l = 32 * l.depth + 3
+
 abbrev pub decreases-concat_at : goal.decreases-concat_at
 decreases-concat_at l = 32 * l.depth + 2
 
@@ -64,13 +67,13 @@ decreases-level_at l = 32 * l.depth + 7 + l.level
 abbrev pub invariant-tail_at-turns : goal.invariant-tail_at-turns
 invariant-tail_at-turns l = record {
   shallow : l.left.depth ≤ l.depth + 1;
-  gives : tail_of l.lexemes (reader_of l.lexemes l.depth) l.depth l.level l.from l.depth l.fn.first
-      ≡ tail_of l.lexemes (reader_of l.lexemes l.depth) l.depth l.level l.from (l.depth - l.turn) l.left;
+  gives : tail_of l.terminals (reader_of l.terminals l.depth) l.depth l.level l.from l.depth l.fn.first
+      ≡ tail_of l.terminals (reader_of l.terminals l.depth) l.depth l.level l.from (l.depth - l.turn) l.left;
 }
 
 abbrev pub invariant-exprs_behind-turns : goal.invariant-exprs_behind-turns
 invariant-exprs_behind-turns l = record {
   shallow : l.all.depth ≤ l.depth;
-  gives : exprs_from l.lexemes (reader_of l.lexemes l.depth) (length l.lexemes) l.fn.first
-      ≡ exprs_from l.lexemes (reader_of l.lexemes l.depth) (length l.lexemes - l.turn) l.all;
+  gives : exprs_from l.terminals (reader_of l.terminals l.depth) (length l.terminals) l.fn.first
+      ≡ exprs_from l.terminals (reader_of l.terminals l.depth) (length l.terminals - l.turn) l.all;
 }

@@ -1,5 +1,5 @@
 use Rattle.std.proofs.Common.{◌≡◌, ◌*◌, ◌+◌, ◌-◌, length}
-use Rattle.vl_tree.specs.declared.lexemes.Lexeme.TheVariants as lex
+use Rattle.vl_tree.specs.declared.terminals.Terminal.TheVariants as lex
 use Rattle.vl_parse.specs.Parts.{separated_from}
 use Rattle.vl_parse.specs.Declarations.{lvalue_of}
 use Rattle.vl_parse.proofs.declarations.+lvalue.Given as goal
@@ -15,5 +15,5 @@ decreases-targets l = 4 * l.depth + 2
 
 abbrev pub invariant-further-turns : goal.invariant-further-turns
 invariant-further-turns l =
-    separated_from l.input.lexemes lex.Comma (lvalue_of l.input.lexemes l.depth) (length l.input.lexemes) l.fn.first
-    ≡ separated_from l.input.lexemes lex.Comma (lvalue_of l.input.lexemes l.depth) (length l.input.lexemes - l.turn) l.all
+    separated_from l.input.terminals lex.Comma (lvalue_of l.input.terminals l.depth) (length l.input.terminals) l.fn.first
+    ≡ separated_from l.input.terminals lex.Comma (lvalue_of l.input.terminals l.depth) (length l.input.terminals - l.turn) l.all

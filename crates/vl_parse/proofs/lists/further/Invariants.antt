@@ -4,5 +4,5 @@ use Rattle.vl_parse.proofs.lists.further.Given as goal
 
 abbrev pub invariant-turns : goal.invariant-turns
 invariant-turns g l =
-    separated_from l.input.lexemes l.separator (g.T.Parse.reading l.input l.depth) (length l.input.lexemes) l.fn.first
-    ≡ separated_from l.input.lexemes l.separator (g.T.Parse.reading l.input l.depth) (length l.input.lexemes - l.turn) l.all
+    separated_from l.input.terminals l.separator (g.T.Parse.reading l.input l.depth) (length l.input.terminals) l.fn.first
+    ≡ separated_from l.input.terminals l.separator (g.T.Parse.reading l.input l.depth) (length l.input.terminals - l.turn) l.all

@@ -4,5 +4,5 @@ use Rattle.vl_parse.proofs.lists.many.Given as goal
 
 abbrev pub invariant-turns : goal.invariant-turns
 invariant-turns g l =
-    many_of l.input.lexemes g.T.Begin.opens (g.T.Parse.reading l.input l.depth) l.at
-    ≡ many_from l.input.lexemes g.T.Begin.opens (g.T.Parse.reading l.input l.depth) (length l.input.lexemes - l.turn) l.all
+    many_of l.input.terminals g.T.Begin.opens (g.T.Parse.reading l.input l.depth) l.at
+    ≡ many_from l.input.terminals g.T.Begin.opens (g.T.Parse.reading l.input l.depth) (length l.input.terminals - l.turn) l.all

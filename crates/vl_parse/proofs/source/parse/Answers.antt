@@ -1,5 +1,6 @@
 use Rattle.std.proofs.Common.{◌∙◌, sym}
-use Rattle.vl_expr.specs.Lexemes.{lexemes_of, spellings_of}
+use Rattle.vl_expr.specs.Terminals.{terminals_of}
+use Rattle.vl_lex.specs.Views.{spellings_of}
 use Rattle.vl_parse.proofs.Laws.{no_tokens, empty_found, told_found, told_only, told_refused, told_none}
 use Rattle.vl_parse.proofs.source.parse.Goals as goal
 
@@ -10,20 +11,20 @@ returns-then-is_empty-clause-found c =
 
 pub returns-clause-found : goal.returns-clause-found
 returns-clause-found c =
-    told_found c.args.text.now c.args.tokens.now (lexemes_of c.args.text.now.bytes c.args.tokens.now)
+    told_found c.args.text.now c.args.tokens.now (terminals_of c.args.text.now.bytes c.args.tokens.now)
     (spellings_of c.args.text.now.bytes c.args.tokens.now) 128 c.told.result c.told.ensures
 
 pub returns-clause-only : goal.returns-clause-only
 returns-clause-only c =
-    told_only c.args.text.now c.args.tokens.now (lexemes_of c.args.text.now.bytes c.args.tokens.now)
+    told_only c.args.text.now c.args.tokens.now (terminals_of c.args.text.now.bytes c.args.tokens.now)
     (spellings_of c.args.text.now.bytes c.args.tokens.now) 128 c.told.result c.told.ensures
 
 pub returns-clause-none : goal.returns-clause-none
 returns-clause-none c =
-    told_none c.args.text.now c.args.tokens.now (lexemes_of c.args.text.now.bytes c.args.tokens.now)
+    told_none c.args.text.now c.args.tokens.now (terminals_of c.args.text.now.bytes c.args.tokens.now)
     (spellings_of c.args.text.now.bytes c.args.tokens.now) 128 c.told.result c.told.ensures
 
 pub returns-clause-refused : goal.returns-clause-refused
 returns-clause-refused c =
-    told_refused c.args.text.now c.args.tokens.now (lexemes_of c.args.text.now.bytes c.args.tokens.now)
+    told_refused c.args.text.now c.args.tokens.now (terminals_of c.args.text.now.bytes c.args.tokens.now)
     (spellings_of c.args.text.now.bytes c.args.tokens.now) 128 c.told.result c.told.ensures

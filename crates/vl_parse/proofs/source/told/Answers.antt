@@ -10,7 +10,7 @@ new-input-requires-clause-spans c = spans_along c.bytes.ensures.bytes c.list.ens
 pub returns-in-Ok : goal.returns-in-Ok
 returns-in-Ok c =
     along c.args.text.now.bytes c.args.tokens.now 128 c.new-input.result c.as_slice.result.now c.bytes.result.now c.list.result.now
-    c.new-input.ensures (c.as_slice.ensures.value ∙ c.in_ok-lexemes.ensures.each) c.bytes.ensures.bytes c.list.ensures
+    c.new-input.ensures (c.as_slice.ensures.value ∙ c.in_ok-terminals.ensures.each) c.bytes.ensures.bytes c.list.ensures
     ∙ c.in-Ok.ensures
 
 pub returns-in-Err-NoTree : goal.returns-in-Err-NoTree
@@ -19,7 +19,7 @@ returns-in-Err-NoTree c =
     let is : c.in-Err-NoTree.field-0 ≡ errors.NoTree c.in-Err-NoTree.at = search rules in (
       c.in-Err-NoTree.at,
       along c.args.text.now.bytes c.args.tokens.now 128 c.new-input.result c.as_slice.result.now c.bytes.result.now c.list.result.now
-          c.new-input.ensures (c.as_slice.ensures.value ∙ c.in_ok-lexemes.ensures.each) c.bytes.ensures.bytes c.list.ensures
+          c.new-input.ensures (c.as_slice.ensures.value ∙ c.in_ok-terminals.ensures.each) c.bytes.ensures.bytes c.list.ensures
           ∙ gives_stop c.in-Err-NoTree.field-0 c.in-Err-NoTree.at _ is c.in-Err-NoTree.ensures,
       c.refused.ensures,
     )

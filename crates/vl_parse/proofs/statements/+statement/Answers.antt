@@ -9,15 +9,15 @@ use Rattle.vl_parse.proofs.statements.+statement.Goals.{further_citems-else-turn
 pub stmts_at-turns-preserved : goal.stmts_at-turns-preserved
 stmts_at-turns-preserved t c =
     c.turns.invariant
-    ∙ many_more c.args.input.now.lexemes (stmt_of c.args.input.now.lexemes c.args.input.now.names c.args.depth) opens_stmt c.turns.turn
-    (length c.args.input.now.lexemes) c.turns.all c.in_ok-all.all c.in_ok-next.next (before c.len-turn-end.ensures.value c.turns-test.true)
+    ∙ many_more c.args.input.now.terminals (stmt_of c.args.input.now.terminals c.args.input.now.names c.args.depth) opens_stmt c.turns.turn
+    (length c.args.input.now.terminals) c.turns.all c.in_ok-all.all c.in_ok-next.next (before c.len-turn-end.ensures.value c.turns-test.true)
     (ap opens_stmt (sym c.get.ensures.value) ∙ sym c.opens_stmt.ensures ∙ c.if-not-opens_stmt.false) c.in_ok-next.ensures c.in_ok-all.ensures
 
 pub further_citems-turns-preserved : goal.further_citems-turns-preserved
 further_citems-turns-preserved t c =
     c.turns.invariant
-    ∙ citems_more c.args.input.now.lexemes (stmt_of c.args.input.now.lexemes c.args.input.now.names c.args.depth) c.args.depth c.turns.turn
-    (length c.args.input.now.lexemes) c.turns.defaulted _ c.turns.all c.in_ok-all.all c.in_ok-next.next
+    ∙ citems_more c.args.input.now.terminals (stmt_of c.args.input.now.terminals c.args.input.now.names c.args.depth) c.args.depth c.turns.turn
+    (length c.args.input.now.terminals) c.turns.defaulted _ c.turns.all c.in_ok-all.all c.in_ok-next.next
     (before c.len-turn-end.ensures.value c.turns-test.true)
     (ap opens_citem (sym c.get.ensures.value) ∙ sym c.opens_citem.ensures ∙ c.if-not-opens_citem.false) c.in_ok-next.ensures
     (ap (λ b. c.turns.defaulted || b) c.is_at-defaulted.ensures.value) c.in_ok-all.ensures
@@ -27,8 +27,8 @@ further_citems-returns-in_err-next t c =
     let p = err_from_is_err_and c.from_residual.result c.from_residual.ensures.1 in
     rw (p.1, p.2)
     (gives_along (Err c.in_err-next.field-0.0) _ _ c.turns.invariant
-    (citems_stuck c.args.input.now.lexemes (stmt_of c.args.input.now.lexemes c.args.input.now.names c.args.depth) c.args.depth c.turns.turn
-    (length c.args.input.now.lexemes) c.turns.defaulted c.turns.all _ (before c.len-turn-end.ensures.value c.turns-test.true)
+    (citems_stuck c.args.input.now.terminals (stmt_of c.args.input.now.terminals c.args.input.now.names c.args.depth) c.args.depth c.turns.turn
+    (length c.args.input.now.terminals) c.turns.defaulted c.turns.all _ (before c.len-turn-end.ensures.value c.turns-test.true)
     (ap opens_citem (sym c.get.ensures.value) ∙ sym c.opens_citem.ensures ∙ c.if-not-opens_citem.false) c.in_err-next.ensures))
 
 pub further_citems-returns : goal.further_citems-returns
@@ -38,16 +38,16 @@ further_citems-returns t c =
           let f = w.turns-test.false in
           let v = c.len-turn-end.ensures.value in
           c.turns.invariant
-          ∙ citems_full c.args.input.now.lexemes (stmt_of c.args.input.now.lexemes c.args.input.now.names c.args.depth) c.args.depth c.turns.turn
-          (length c.args.input.now.lexemes) c.turns.defaulted c.turns.all (omega arith)
+          ∙ citems_full c.args.input.now.terminals (stmt_of c.args.input.now.terminals c.args.input.now.names c.args.depth) c.args.depth c.turns.turn
+          (length c.args.input.now.terminals) c.turns.defaulted c.turns.all (omega arith)
       | further_citems-then-turns-test+then-not-opens_citem w ↦
           c.turns.invariant
-          ∙ citems_over c.args.input.now.lexemes (stmt_of c.args.input.now.lexemes c.args.input.now.names c.args.depth) c.args.depth
-          (length c.args.input.now.lexemes - c.turns.turn) c.turns.defaulted c.turns.all
+          ∙ citems_over c.args.input.now.terminals (stmt_of c.args.input.now.terminals c.args.input.now.names c.args.depth) c.args.depth
+          (length c.args.input.now.terminals - c.turns.turn) c.turns.defaulted c.turns.all
           (ap opens_citem (sym w.get.ensures.value) ∙ sym w.opens_citem.ensures ∙ w.if-not-opens_citem.true)
     ]
 
 pub stmt-returns-in_default : goal.stmt-returns-in_default
 stmt-returns-in_default t c =
-    stmt_up c.args.input.now.lexemes c.args.input.now.names c.args.depth c.args.at c.opening_at.result c.opened.result c.if-depth-eq0.false
+    stmt_up c.args.input.now.terminals c.args.input.now.names c.args.depth c.args.at c.opening_at.result c.opened.result c.if-depth-eq0.false
     (sym c.opening_at.ensures.value) c.opened.ensures

@@ -61,10 +61,10 @@ decreases-opened l = 16 * l.depth + 7
 
 abbrev pub invariant-stmts_at-turns : goal.invariant-stmts_at-turns
 invariant-stmts_at-turns l =
-    many_of l.input.lexemes opens_stmt (stmt_of l.input.lexemes l.input.names l.depth) l.at
-    ≡ many_from l.input.lexemes opens_stmt (stmt_of l.input.lexemes l.input.names l.depth) (length l.input.lexemes - l.turn) l.all
+    many_of l.input.terminals opens_stmt (stmt_of l.input.terminals l.input.names l.depth) l.at
+    ≡ many_from l.input.terminals opens_stmt (stmt_of l.input.terminals l.input.names l.depth) (length l.input.terminals - l.turn) l.all
 
 abbrev pub invariant-further_citems-turns : goal.invariant-further_citems-turns
 invariant-further_citems-turns l =
-    citems_from l.input.lexemes (stmt_of l.input.lexemes l.input.names l.depth) l.depth (length l.input.lexemes) l.fn.had_default l.fn.first
-    ≡ citems_from l.input.lexemes (stmt_of l.input.lexemes l.input.names l.depth) l.depth (length l.input.lexemes - l.turn) l.defaulted l.all
+    citems_from l.input.terminals (stmt_of l.input.terminals l.input.names l.depth) l.depth (length l.input.terminals) l.fn.had_default l.fn.first
+    ≡ citems_from l.input.terminals (stmt_of l.input.terminals l.input.names l.depth) l.depth (length l.input.terminals - l.turn) l.defaulted l.all

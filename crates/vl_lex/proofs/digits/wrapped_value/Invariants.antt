@@ -1,0 +1,7 @@
+-- the value of the bytes so far
+use Rattle.std.proofs.Common.{◌≡◌, ◌%◌, ◌^◌, take}
+use Rattle.vl_lex.specs.Numbers.{number_of}
+use Rattle.vl_lex.proofs.digits.wrapped_value.Given as goal
+
+abbrev pub invariant-loop-byte : goal.invariant-loop-byte
+invariant-loop-byte l = l.value ≡ number_of l.radix (take l.byte-index l.digits) % 2 ^ 64
