@@ -1,27 +1,11 @@
-//! A compiler from timed Verilog processes to clocked designs: the program and its top call.
+//! A compiler from timed Verilog processes to clocked designs.
 #![tactic(auto)]
 
-mod command;
-mod compile;
-mod counts;
-mod flatten;
-mod names;
-mod note;
-mod numbers;
-mod reader;
-mod source;
-mod status;
-#[cfg(test)]
-mod tests;
-mod tokens;
-mod top;
-
-use status::Status;
 use std::env;
 use std::io::ErrorKind;
 use std::process::ExitCode;
-use top::xtc;
 use xt_base::{HostFiles, HostSink, NoMemory, Stream, Words};
+use xt_top::{Status, xtc};
 
 /// The words after the program's name. Words that are no text are no command, as no words are.
 fn words(rt: HostRuntime) -> Result<Words, NoMemory> {

@@ -1,0 +1,15 @@
+use Rattle.std.proofs.Common.{ℕ, Some, refl, sym, ap, get_or, subst, ◌≡◌}
+use Rattle.std.specs.Prelude.{slice_get}
+use Rattle.xt_bits.specs.Word.{word}
+use Rattle.xt_compile.specs.first.Nodes.{register_widths}
+use Rattle.xt_compile.proofs.Growing.{added_means}
+use Rattle.xt_compile.proofs.Sums.{if_ok}
+use Rattle.xt_compile.proofs.first.compile.map.register.Goals as goal
+
+pub returns : goal.returns
+returns c =
+    if_ok _ _ _ (λ i is.
+    added_means c.args.design.now _ _ _ i c.args.width _ is
+    (subst (λ (k : ℕ). slice_get (register_widths c.args.design.now) k ≡ Some c.args.width) (sym c.in_ok-reg.ensures) c.requires.there) refl
+    (λ s. ap (λ (k : ℕ). get_or s.state.registers k (word c.args.width 0)) c.in_ok-reg.ensures))
+    c.node.ensures.ok

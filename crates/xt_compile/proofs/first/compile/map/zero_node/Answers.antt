@@ -1,0 +1,8 @@
+use Rattle.std.proofs.Common.{ap}
+use Rattle.xt_bits.specs.Word.{Word}
+use Rattle.xt_compile.proofs.Growing.{added_means}
+use Rattle.xt_compile.proofs.Sums.{if_ok}
+use Rattle.xt_compile.proofs.first.compile.map.zero_node.Goals as goal
+
+pub returns : goal.returns
+returns c = if_ok _ _ _ (λ i is. added_means c.args.design.now _ _ _ i c.args.width _ is tt (ap (λ (k : Word). k.width) c.new.ensures) (λ s. c.new.ensures)) c.node.ensures.ok

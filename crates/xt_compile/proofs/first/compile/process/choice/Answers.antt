@@ -1,0 +1,12 @@
+use Rattle.std.proofs.Common.{refl}
+use Rattle.xt_compile.proofs.Growing.{added_means, alike, width_within}
+use Rattle.xt_compile.proofs.Sums.{if_ok}
+use Rattle.xt_compile.proofs.first.compile.process.choice.Goals as goal
+
+pub node-requires : goal.node-requires
+node-requires c =
+    let test = width_within c.args.builder.now c.args.test 1 c.requires.test in
+    (test.0, test.1, alike _ _ _ _ c.requires.alike.1 c.requires.alike.2)
+
+pub returns : goal.returns
+returns c = λ w h. if_ok _ _ _ (λ i is. added_means c.args.design.now _ _ _ i w _ is tt (width_within c.args.builder.now c.args.yes w h).1 (λ s. refl)) c.node.ensures.ok

@@ -1,0 +1,13 @@
+use Rattle.std.proofs.Common.{ap, ◌∙◌}
+use Rattle.xt_bits.specs.Word.{Word, word}
+use Rattle.xt_compile.specs.first.Nodes.{state_width}
+use Rattle.xt_compile.proofs.Growing.{added_means}
+use Rattle.xt_compile.proofs.Sums.{if_ok}
+use Rattle.xt_compile.proofs.first.compile.process.constant.Goals as goal
+
+pub returns : goal.returns
+returns c =
+    if_ok _ _ _ (λ i is.
+    added_means c.args.design.now _ _ _ i state_width _ is tt (ap (λ (k : Word). k.width) c.new.ensures)
+    (λ s. c.new.ensures ∙ ap (word state_width) c.from.ensures))
+    c.node.ensures.ok

@@ -1,0 +1,11 @@
+use Rattle.std.proofs.Common.{refl}
+use Rattle.xt_compile.specs.first.Nodes.{state_width}
+use Rattle.xt_compile.proofs.Growing.{added_means, alike, width_within}
+use Rattle.xt_compile.proofs.Sums.{if_ok}
+use Rattle.xt_compile.proofs.first.compile.process.plus.Goals as goal
+
+pub node-requires : goal.node-requires
+node-requires c = alike _ _ _ _ c.requires.left c.requires.right
+
+pub returns : goal.returns
+returns c = if_ok _ _ _ (λ i is. added_means c.args.design.now _ _ _ i state_width _ is tt (width_within c.args.builder.now c.args.left state_width c.requires.left).1 (λ s. refl)) c.node.ensures.ok

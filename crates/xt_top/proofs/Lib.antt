@@ -1,0 +1,5 @@
+pub mod Defines
+pub mod Judging
+pub mod Leaving
+pub mod Pieces
+pub mod Outcomes

@@ -1,5 +1,0 @@
-use Rattle.std.proofs.Common.{length}
-use Rattle.xtc.proofs.command.+has_comment.Given as goal
-
-abbrev pub decreases-has_comment : goal.decreases-has_comment
-decreases-has_comment l = length l.text.now

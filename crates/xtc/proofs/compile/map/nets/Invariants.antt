@@ -1,9 +1,0 @@
--- each net so far has its node
-use Rattle.el_design.specs.Queue.{pin_value}
-use Rattle.el_design.specs.View.{flat_of}
-use Rattle.xtc.specs.Form.{net_widths}
-use Rattle.xtc.proofs.Maps.{EachSoFar}
-use Rattle.xtc.proofs.compile.map.nets.Given as goal
-
-abbrev pub invariant-loop-place : goal.invariant-loop-place
-invariant-loop-place l = EachSoFar l.design l.fn.builder l.builder l.nodes.items (net_widths l.design) l.place (λ s x. pin_value (flat_of l.design) s.inputs.row x.0 x.1)

@@ -1,9 +1,0 @@
--- each variable so far has its node
-use Rattle.std.proofs.Common.{get_or}
-use Rattle.xt_bits.specs.Word.{word}
-use Rattle.xtc.specs.Form.{var_widths}
-use Rattle.xtc.proofs.Maps.{EachSoFar}
-use Rattle.xtc.proofs.compile.map.vars.Given as goal
-
-abbrev pub invariant-loop-place : goal.invariant-loop-place
-invariant-loop-place l = EachSoFar l.design l.fn.builder l.builder l.nodes.items (var_widths l.design) l.place (λ s x. get_or s.state.registers x.0 (word x.1 0))

@@ -1,6 +1,0 @@
-use Rattle.std.proofs.Common.{◌≡◌, ◌∷◌, map, take}
-use Rattle.xtc.specs.Nodes.{node_shown}
-use Rattle.xtc.proofs.compile.shell.drives.Given as goal
-
-abbrev pub invariant-loop-pin : goal.invariant-loop-pin
-invariant-loop-pin l = l.drives.items ≡ l.edge ∷ map (λ p. node_shown l.nodes p.from) (take l.pin-index l.pin-items)

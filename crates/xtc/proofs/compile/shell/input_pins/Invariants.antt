@@ -1,6 +1,0 @@
-use Rattle.std.proofs.Common.{◌≡◌, map, take}
-use Rattle.xtc.specs.Form.{net_at, wire}
-use Rattle.xtc.proofs.compile.shell.input_pins.Given as goal
-
-abbrev pub invariant-loop-number : goal.invariant-loop-number
-invariant-loop-number l = l.wires.items ≡ map (λ n. wire (net_at l.design n).name (net_at l.design n).width) (take l.number-index l.number-items)

@@ -1,6 +1,0 @@
-use Rattle.std.proofs.Common.{◌≡◌, ◌∷◌, map, take}
-use Rattle.xtc.specs.Flatten.{net_of}
-use Rattle.xtc.proofs.flatten.nets.Given as goal
-
-abbrev pub invariant-loop-port : goal.invariant-loop-port
-invariant-loop-port l = l.nets ≡ net_of l.source.clock 1 ∷ map (λ p. net_of p.name p.width) (take l.port-index l.port-items)

@@ -1,7 +1,0 @@
-use Rattle.std.proofs.Common.{◌≡◌, map, take}
-use Rattle.std.specs.List.{enumerate_from}
-use Rattle.xtc.specs.Flatten.{pin_of}
-use Rattle.xtc.proofs.flatten.pins.Given as goal
-
-abbrev pub invariant-loop-place : goal.invariant-loop-place
-invariant-loop-place l = l.pins ≡ map pin_of (enumerate_from 0 (take l.place l.outputs))

@@ -1,6 +1,0 @@
-use Rattle.std.proofs.Common.{◌≡◌, map, take}
-use Rattle.xtc.specs.Flatten.{statement_of}
-use Rattle.xtc.proofs.flatten.statements.Given as goal
-
-abbrev pub invariant-loop-step : goal.invariant-loop-step
-invariant-loop-step l = l.body ≡ map statement_of (take l.step-index l.steps)

@@ -1,6 +1,0 @@
-use Rattle.std.proofs.Common.{◌≡◌, fold, take}
-use Rattle.xtc.specs.Flatten.{added, typed, kind_of}
-use Rattle.xtc.proofs.flatten.sum.Given as goal
-
-abbrev pub invariant-loop-right : goal.invariant-loop-right
-invariant-loop-right l = l.left ≡ fold (added l.value.width) (typed l.value.width (kind_of l.value.first)) (take l.right-index l.right-items)

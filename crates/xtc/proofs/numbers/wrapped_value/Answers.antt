@@ -1,6 +1,0 @@
-use Rattle.std.proofs.Common.{arith}
-use Rattle.xtc.proofs.FormNumbers.{wrapped_next}
-use Rattle.xtc.proofs.numbers.wrapped_value.Goals as goal
-
-pub loop-byte-preserved : goal.loop-byte-preserved
-loop-byte-preserved c = wrapped_next c.args.radix c.args.digits.now c.loop-byte.byte-index 0 c.loop-byte.value _ (omega arith) c.loop-byte.invariant c.wrapped_more-value.ensures

@@ -1,7 +1,0 @@
--- the value of the bytes so far
-use Rattle.std.proofs.Common.{◌≡◌, ◌%◌, ◌^◌, take}
-use Rattle.xtc.specs.Tree.{number_of}
-use Rattle.xtc.proofs.numbers.wrapped_value.Given as goal
-
-abbrev pub invariant-loop-byte : goal.invariant-loop-byte
-invariant-loop-byte l = l.value ≡ number_of l.radix (take l.byte-index l.digits) % 2 ^ 64

@@ -1,7 +1,0 @@
--- the ports so far and those that are left give what all give
-use Rattle.std.proofs.Common.{◌≡◌, drop}
-use Rattle.xtc.specs.Reading.{no_ports, ports_from}
-use Rattle.xtc.proofs.reader.ports.read_ports.Given as goal
-
-abbrev pub invariant-loop-port : goal.invariant-loop-port
-invariant-loop-port l = ports_from l.names l.clock no_ports l.ports ≡ ports_from l.names l.clock l.found (drop l.port-index l.ports)

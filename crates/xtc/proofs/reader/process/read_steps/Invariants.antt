@@ -1,7 +1,0 @@
--- the steps so far and the statements that are left give what all give
-use Rattle.std.proofs.Common.{◌≡◌, [], drop}
-use Rattle.xtc.specs.Reading.{steps_from}
-use Rattle.xtc.proofs.reader.process.read_steps.Given as goal
-
-abbrev pub invariant-loop-stmt : goal.invariant-loop-stmt
-invariant-loop-stmt l = steps_from l.names l.ports l.clock [] l.body ≡ steps_from l.names l.ports l.clock l.steps (drop l.stmt-index l.body)
