@@ -9,6 +9,7 @@ use Rattle.el_design.specs.Walk.{IsUnrolled}
 use Rattle.el_design.specs.Calls.{foreign}
 use Rattle.el_design.specs.Rules.{max_turns, too_many, turns, impure, IsCleanBefore}
 use Rattle.el_design.specs.Laws.{LoopsCount}
+use Rattle.el_design.specs.Loops.{first_off}
 use Rattle.el_design.proofs.OrderRule.{split}
 use Rattle.el_design.proofs.OrderWalk.{Surely, sure, surely}
 use Rattle.el_design.proofs.Places.{onward, body_stands}
@@ -18,10 +19,6 @@ use Rattle.el_design.proofs.WaysFound.{loops, walk_found}
 use Rattle.el_design.proofs.WaysBack.{walk_back}
 
 -- ---- the first number below a bound at which a test fails
-
-abbrev pub first_off : (ℕ → Bool) → ℕ → Option ℕ
-first_off f zero = None
-first_off f (suc n) = elim (first_off f n) [ Some k ↦ Some k | None ↦ if f n then None else Some n ]
 
 abbrev pub IsOff : (ℕ → Bool) → ℕ → Type 0
 IsOff f k = ((j : ℕ) → j < k → f j ≡ true) × (f k ≡ false)

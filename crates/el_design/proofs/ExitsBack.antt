@@ -58,7 +58,7 @@ some_is : {X : Type 0} (a b : X) → Some a ≡ Some b → a ≡ b
 some_is a b e = cc
 
 -- a mark that is open round a stack is open on it
-opened_round : (k : List Work) (round : List ℕ) (m : ℕ) → Contains round m → contains_number (open_on k round) m ≡ true
+pub opened_round : (k : List Work) (round : List ℕ) (m : ℕ) → Contains round m → contains_number (open_on k round) m ≡ true
 opened_round [] round m c = has_con round m c
 opened_round (Do s ∷ k) round m c = opened_round k round m c
 opened_round (End n ∷ k) round m c = second_of (n == m) _ (opened_round k round m c)
@@ -146,7 +146,7 @@ module _ (d : Flat) (told : Statement → Told) (tasks : TaskExits) (given : Are
     past_end m k r true e more = refl
     past_end m k r false e more = more e
 
-    opened : (k r : List Work) (m : ℕ) → below_mark m k ≡ Some r → contains_number (open_on k round) m ≡ true
+    pub opened : (k r : List Work) (m : ℕ) → below_mark m k ≡ Some r → contains_number (open_on k round) m ≡ true
     opened [] r m e = cc
     opened (Do s ∷ k) r m e = opened k r m e
     opened (End n ∷ k) r m e = past_end m k r (n == m) e (opened k r m)
@@ -161,7 +161,7 @@ module _ (d : Flat) (told : Statement → Told) (tasks : TaskExits) (given : Are
     no_end m k true e more = cc
     no_end m k false e more = more e
 
-    shut_on : (k : List Work) (m : ℕ) → below_mark m k ≡ None → (Contains round m → ⊥) → contains_number (open_on k round) m ≡ false
+    pub shut_on : (k : List Work) (m : ℕ) → below_mark m k ≡ None → (Contains round m → ⊥) → contains_number (open_on k round) m ≡ false
     shut_on [] m e f = go (true_or_false (contains_number round m))
       where
         go : (contains_number round m ≡ true) ⊎ (contains_number round m ≡ false) → contains_number round m ≡ false
@@ -320,12 +320,12 @@ module _ (d : Flat) (told : Statement → Told) (tasks : TaskExits) (given : Are
         (subst (λ x. Reaches z (Do x ∷ Do (While at test own) ∷ k)) (sym (some_is own body b)) r)
 
     -- of a `for` that has no bound nothing else is told
-    free_told : (at : Place) (v : ℕ) (first test next : Expr) (body : Statement) → (HasBound d (For at v first test next body) → ⊥) → (t : Told) → Says d (For at v first test next body) t → t ≡ NotCounted
+    pub free_told : (at : Place) (v : ℕ) (first test next : Expr) (body : Statement) → (HasBound d (For at v first test next body) → ⊥) → (t : Told) → Says d (For at v first test next body) t → t ≡ NotCounted
     free_told at v first test next body f NotCounted r = refl
     free_told at v first test next body f (Finite n) r = absurd (f (has_bound d (inl (n, r))))
     free_told at v first test next body f Endless r = absurd (f (has_bound d (inr r)))
 
-    not_constant : (at : Place) (test : Expr) (body own : Statement) → IsFreeLoop d (While at test body) own → is_constant test ≡ false
+    pub not_constant : (at : Place) (test : Expr) (body own : Statement) → IsFreeLoop d (While at test body) own → is_constant test ≡ false
     not_constant at test body own f = go (true_or_false (is_constant test)) (true_or_false (holds d test))
       where
         go : (is_constant test ≡ true) ⊎ (is_constant test ≡ false) → (holds d test ≡ true) ⊎ (holds d test ≡ false) → is_constant test ≡ false
@@ -333,7 +333,7 @@ module _ (d : Flat) (told : Statement → Told) (tasks : TaskExits) (given : Are
         go (inl c) (inl h) = absurd (f.no_end (endless_while c h))
         go (inl c) (inr h) = absurd (f.no_bound (bound_while c h))
 
-    not_repeated : (at : Place) (count : Expr) (body own : Statement) → IsFreeLoop d (Repeat at count body) own → is_constant count ≡ false
+    pub not_repeated : (at : Place) (count : Expr) (body own : Statement) → IsFreeLoop d (Repeat at count body) own → is_constant count ≡ false
     not_repeated at count body own f = go (true_or_false (is_constant count))
       where
         go : (is_constant count ≡ true) ⊎ (is_constant count ≡ false) → is_constant count ≡ false

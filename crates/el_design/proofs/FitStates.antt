@@ -64,7 +64,7 @@ pin_word d row n w fits is = go (position (λ k. k == n) d.inputs) refl
         let at = position-Some (λ k. k == n) d.inputs i n e in
         row_word d d.inputs row i n w fits.0 fits.1 at.0 (ap (net_width d) (eqb-true (get_or d.inputs i n) n at.1) ∙ is)
 
-aim_word : (d : Flat) (row : List Word) (s : Scene) (n : ℕ) (net : FlatNet) → IsRow d row → slice_get d.nets n ≡ Some net → IsWordOf net.width (net_aim d row s n net)
+pub aim_word : (d : Flat) (row : List Word) (s : Scene) (n : ℕ) (net : FlatNet) → IsRow d row → slice_get d.nets n ≡ Some net → IsWordOf net.width (net_aim d row s n net)
 aim_word d row s n net fits e = go net.value
   where
     there : net_width d n ≡ net.width

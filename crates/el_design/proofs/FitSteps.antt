@@ -83,7 +83,7 @@ any_one xs k d lt = tt
 
 module _ (d : Flat) (sound : IsSound d) where
   -- a process from its beginning
-  always_fits : (at : Place) (body : Statement) → IsSoundText d body → IsSoundText d (Forever at body)
+  pub always_fits : (at : Place) (body : Statement) → IsSoundText d body → IsSoundText d (Forever at body)
   always_fits at body h x (o, itself) = record { expressions = All-nil (IsExpr d); outputs = All-nil (IsOutput d); fits = tt }
   always_fits at body h x (o, in_forever k) = h x (o, k)
 

@@ -35,7 +35,8 @@ use Rattle.el_design.proofs.Ways.{Ways, Past, is_zero, turning, repeating, fors,
 use Rattle.el_design.proofs.WaysPuts.{first_of, second_of, left_of, right_of, both_are, true_or_false, clash, is_counted}
 use Rattle.el_design.proofs.WaysFound.{go_may, loops, free_for, for_is, walk_found}
 use Rattle.el_design.proofs.WaysBack.{choose_first, choose_second}
-use Rattle.el_design.proofs.Counts.{first_off, IsOff, Finds, finds, in_text}
+use Rattle.el_design.specs.Loops.{first_off}
+use Rattle.el_design.proofs.Counts.{IsOff, Finds, finds, in_text}
 
 lone : (v u : ℕ) → Contains (v ∷ []) u → v ≡ u
 lone v u c = go (con_cases v u [] c)

@@ -157,7 +157,9 @@ module _ (d : Flat) (finite : IsFinite d) where
   tasks = heights_to d (length d.tasks)
 
   task_height : (t : ℕ) (task : FlatTask) → slice_get d.tasks t ≡ Some task → tasks t ≡ height tasks task.body
-  task_height = made_of_task d finite ℕ 0 height body_height (heights_to d) (λ c. refl) (λ c task. refl) (λ t. refl) (λ n t. refl) same
+  task_height t task e =
+      made_of_task d finite (Unit {0}) ℕ 0 (λ c x i. height (λ q. c q tt) x.body) (λ c o i. body_height (λ q. c q tt) o) (λ n q i. heights_to d n q) (λ c i. refl) (λ c x i. refl) (λ q i. refl) (λ n q i. refl)
+      (λ c e x f i. same (λ q. c q tt) (λ q. e q tt) x.body (λ at q ins outs h. f at q ins outs h tt)) t task e tt
 
   module _ (room : ℕ) where
     abbrev Leaves : Option Acted → Type 0

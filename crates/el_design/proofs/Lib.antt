@@ -72,3 +72,10 @@ pub mod Leaving
 pub mod ExitsFound
 pub mod ExitsBack
 pub mod ExitsWalks
+pub mod ExitsInPlace
+pub mod LengthsInPlace
+pub mod LengthsAlike
+pub mod LengthsDown
+pub mod LengthsWalks
+pub mod LoopsTold
+pub mod LengthRows

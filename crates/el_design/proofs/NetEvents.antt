@@ -1,5 +1,5 @@
 -- Events of nets alone lead to settled nets: each lowers a number.
-use Rattle.std.proofs.Common.{◌≡◌, ℕ, zero, suc, ◌+◌, ◌<◌, Bool, true, false, ◌&&◌, if◌then◌else◌, List, [], ◌∷◌, length, set, slice_get, Some, None, refl, sym, ◌∙◌, ap, subst, arith}
+use Rattle.std.proofs.Common.{◌≡◌, ℕ, zero, suc, ◌+◌, ◌<◌, Bool, true, false, ◌&&◌, if◌then◌else◌, List, [], ◌∷◌, length, get_or, set, slice_get, Some, None, refl, sym, ◌∙◌, ap, subst, arith}
 use Rattle.std.specs.List.{list_all}
 use Rattle.std.proofs.lemmas.Option.{slice_get_within, get_or_from_slice_get}
 use Rattle.xt_bits.specs.Word.{Word, word}
@@ -8,7 +8,10 @@ use Rattle.el_design.specs.Store.{Store}
 use Rattle.el_design.specs.Queue.{Config, scene, scene_of, net_aim, has_value, are_valued, Event, Follow, take_net, take}
 use Rattle.el_design.specs.Run.{IsSettled, Takes, Any}
 use Rattle.el_design.specs.Rules.{IsOrder}
-use Rattle.el_design.specs.RunLaws.{is_net_event, NetsSettle, SettledNetsAreOne, NetEventsSettle}
+use Rattle.el_design.specs.RunLaws.{is_net_event, NetsSettle, SettledNetsAreOne, NetEventsSettle, FittingNetsSettle}
+use Rattle.el_design.specs.Value.{Scene}
+use Rattle.el_design.specs.Fits.{IsWordOf, FitsConfig}
+use Rattle.el_design.proofs.FitStates.{aim_word}
 use Rattle.el_design.proofs.OrderPlaces.{got_below}
 use Rattle.el_design.proofs.OrderNets.{NetsSized, settled_sized, moved_sized, Valued, all_are_valued, is_aim, nets_one}
 use Rattle.el_design.proofs.OrderDigits.{digits, digits_lower}
@@ -27,6 +30,19 @@ unfolding with_nets
 settled_nets_are_one d order ordered row store a b h g =
     nets_one d order ordered (with_nets row store a) (with_nets row store b) refl refl (settled_sized d row a store h) (settled_sized d row b store g)
     (settled_valued d (with_nets row store a) h) (settled_valued d (with_nets row store b) g)
+
+-- in a state that fits the design each net has a value of the width that it takes
+fitting_sized : (d : Flat) (c : Config) → FitsConfig d c → NetsSized d c.row c.nets
+fitting_sized d c fits = record { size = fits.size; wide = wide }
+  where
+    wide : (n : ℕ) (net : FlatNet) (s : Scene) → slice_get d.nets n ≡ Some net → (get_or c.nets n (word net.width 0)).width ≡ (net_aim d c.row s n net).width
+    wide n net s is =
+        let l : n < length d.nets = slice_get_within d.nets n net is in
+        let size : length c.nets ≡ length d.nets = fits.size in
+        let x : (w : Word) × (slice_get c.nets n ≡ Some w) = got_below c.nets n (omega arith) in
+        let own : IsWordOf net.width x.0 = fits.nets n net x.0 is x.1 in
+        let aim : IsWordOf net.width (net_aim d c.row s n net) = aim_word d c.row s n net fits.row is in
+        ap (λ w. w.width) (get_or_from_slice_get c.nets n x.0 (word net.width 0) x.1) ∙ own.0 ∙ sym aim.0
 
 -- a net that hasn't its value
 record Differs (d : Flat) (c : Config) : Type 0 where
@@ -95,4 +111,9 @@ module _ (d : Flat) (order : List ℕ) (ordered : IsOrder d order) where
   pub net_events_settle : NetEventsSettle d
   net_events_settle k c before h =
       let s : Settles k c = settles (suc (digits d order c)) k c (omega arith) (settled_sized d c.row c.nets before h) in
+      (s.events, s.nets, s.all, s.takes, s.settled)
+
+  pub fitting_nets_settle : FittingNetsSettle d
+  fitting_nets_settle k c fits =
+      let s : Settles k c = settles (suc (digits d order c)) k c (omega arith) (fitting_sized d c fits) in
       (s.events, s.nets, s.all, s.takes, s.settled)

@@ -11,7 +11,7 @@ use Rattle.el_design.specs.Queue.{Config, is_stuck, Event, Run, Follow, Update, 
 use Rattle.el_design.specs.Run.{IsStimulus, IsSettled, started, Starts, woken, Continues, Takes, rest_seen, starved_seen, Goes, RunsBy, Any, First, pick_after, Picked}
 use Rattle.el_design.specs.Checked.{IsChecked}
 use Rattle.el_design.specs.Laws.{EveryStimulusRuns}
-use Rattle.el_design.specs.RunLaws.{HasOneRun}
+use Rattle.el_design.specs.RunLaws.{Chooser, TakesAt, passed_by, HasOneRun, PassesOne}
 use Rattle.el_design.proofs.OrderLists.{con_nil, con_head, con_cases, some_is}
 use Rattle.el_design.proofs.OrderPlaces.{con_got, got_below}
 use Rattle.el_design.proofs.OrderDiamond.{Path}
@@ -46,6 +46,9 @@ pub record Choice (C : ℕ → List Event → Event → Type 0) (k : ℕ) (es : 
 abbrev pub IsChoice : (ℕ → List Event → Event → Type 0) → Type 0
 IsChoice C = (k : ℕ) (e : Event) (es : List Event) → Choice C k (e ∷ es)
 
+pub chooses_one : (c : Chooser) → PassesOne c → IsChoice (passed_by c)
+chooses_one c one k e es = let p = one k e es in record { event = p.0; among = p.1; passes = p.2; one = p.3 }
+
 -- the one at a place that is there
 placed : (C : ℕ → List Event → Event → Type 0) (k i : ℕ) (es : List Event) → i < length es → ((f : Event) → slice_get es i ≡ Some f → C k es f) → ((f : Event) → C k es f → slice_get es i ≡ Some f) → Choice C k es
 placed C k i es h to from =
@@ -58,6 +61,11 @@ first_chooses k e es = placed First k 0 (e ∷ es) (omega arith) (λ f h. h) (λ
 pub pick_chooses : (pick : ℕ) → IsChoice (Picked pick)
 pick_chooses pick k e es =
     placed (Picked pick) k ((pick_after pick (suc k) / 2 ^ 33) % length (e ∷ es)) (e ∷ es) (mod-lt (pick_after pick (suc k) / 2 ^ 33) (omega arith)) (λ f h. h) (λ f h. h)
+
+pub place_chooses : (place : ℕ → List Event → ℕ) → PassesOne (TakesAt place)
+place_chooses place k e es =
+    let p : Choice (passed_by (TakesAt place)) k (e ∷ es) = placed (passed_by (TakesAt place)) k (place k (e ∷ es) % length (e ∷ es)) (e ∷ es) (mod-lt (place k (e ∷ es)) (omega arith)) (λ f h. h) (λ f h. h) in
+    (p.event, p.among, p.passes, p.one)
 
 module _ (d : Flat) (order : List ℕ) (checked : IsChecked d order) (C : ℕ → List Event → Event → Type 0) (choice : IsChoice C) where
   -- ---- there is a run
@@ -252,7 +260,7 @@ module _ (d : Flat) (C : ℕ → List Event → Event → Type 0) where
   any_goes k last rows (es ∷ plays) trace (rest, (row, more, begin, end, later, rows_are, trace_is, continues, takes, goes)) =
       (rest, (row, more, begin, end, later, rows_are, trace_is, continues, any_takes k begin end es takes, any_goes (k + length es) end more plays later goes))
 
-  any_runs : (x : Stimulus) (plays : List (List Event)) (trace : Trace) → RunsBy d C x plays trace → RunsBy d Any x plays trace
+  pub any_runs : (x : Stimulus) (plays : List (List Event)) (trace : Trace) → RunsBy d C x plays trace → RunsBy d Any x plays trace
   any_runs x [] trace h = h
   any_runs x (es ∷ plays) trace (row, more, begin, end, rows_are, starts, takes, goes) =
       (row, more, begin, end, rows_are, starts, any_takes 0 begin end es takes, any_goes (length es) end more plays trace goes)

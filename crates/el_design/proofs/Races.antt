@@ -30,7 +30,7 @@ two_write_second = refl
 
 -- what is written by blocking is read by another process: `initial x = 1;` and `initial y = x;`
 abbrev pub reads_across : Flat
-reads_across = design (reg 8 ∷ reg 8 ∷ []) [] (initial (assign 0 (byte 1)) ∷ initial (assign 1 (Variable (u 8) 0)) ∷ []) [] (1 ∷ [])
+reads_across = design (reg 8 ∷ record (reg 8) { place = at 10 } ∷ []) [] (initial (assign 0 (byte 1)) ∷ initial (assign 1 (Variable (u 8) 0)) ∷ []) [] (1 ∷ [])
 
 reads_across_first : trace_of reads_across 2 ([] ∷ []) (none_for 2) ≡ shows 1
 unfolding words.number_of words.bit_of operators.selected_bit operators.turned_bit operators.extended_bit operators.shifted_bit operators.replaced_bit
@@ -42,7 +42,7 @@ reads_across_second = refl
 
 -- the same through a net: `assign n = x;`, `initial x = 1;` and `initial y = n;`
 abbrev pub over_net : Flat
-over_net = design (reg 8 ∷ reg 8 ∷ []) (record (input 8) { value = Some (Variable (u 8) 0) } ∷ []) (initial (assign 0 (byte 1)) ∷ initial (assign 1 (NetValue (u 8) 1)) ∷ []) [] (1 ∷ [])
+over_net = design (reg 8 ∷ record (reg 8) { place = at 10 } ∷ []) (record (input 8) { value = Some (Variable (u 8) 0) } ∷ []) (initial (assign 0 (byte 1)) ∷ initial (assign 1 (NetValue (u 8) 1)) ∷ []) [] (1 ∷ [])
 
 over_net_first : trace_of over_net 1 ([] ∷ []) (none_for 2) ≡ shows 1
 unfolding words.number_of words.bit_of operators.selected_bit operators.turned_bit operators.extended_bit operators.shifted_bit operators.replaced_bit
@@ -56,8 +56,8 @@ over_net_second = refl
 -- It has one trace, but the update changes the loop's variable at the wait, so edge 1 has more events than U, which counts 3 turns.
 abbrev counts_on : Statement
 counts_on = block (later 0 (byte 200)
-    ∷ For (at 1) 0 (byte 0) (Binary (u 1) op.Ne (Variable (u 8) 0) (byte 3)) (Binary (u 8) op.Add (Variable (u 8) 0) (byte 1))
-    (If (at 1) (Binary (u 1) op.Eq (Variable (u 8) 0) (byte 0)) posedge Null)
+    ∷ For (at 10) 0 (byte 0) (Binary (u 1) op.Ne (Variable (u 8) 0) (byte 3)) (Binary (u 8) op.Add (Variable (u 8) 0) (byte 1))
+    (If (at 11) (Binary (u 1) op.Eq (Variable (u 8) 0) (byte 0)) posedge Null)
     ∷ [])
 
 abbrev both_kinds : Flat

@@ -253,7 +253,12 @@ called n = Called 0 (word 32 n ∷ [])
 abbrev starving : Flat
 starving = calling (initial (block (call_f (int 1) 0 ∷ later 2 (byte 1) ∷ [])) ∷ always (block (later 3 (byte 1) ∷ call_f (int 2) 1 ∷ posedge ∷ [])) ∷ [])
 
-calls_run_0 : trace_of with_calls 0 ([] ∷ [] ∷ []) ((reply 3 7 ∷ []) ∷ (reply 0 4 ∷ reply 1 5 ∷ []) ∷ []) ≡ shown 2 (8 ∷ 8 ∷ []) (0 ∷ 0 ∷ []) ∷ record { calls = (called 1 ∷ []) ∷ (called 2 ∷ called 4 ∷ []) ∷ []; ending = Rested 5 (pins (8 ∷ 8 ∷ []) (7 ∷ 9 ∷ [])) } ∷ []
+calls_run_0 : trace_of with_calls 0 ([] ∷ [] ∷ [] ∷ [])
+    ((reply 3 7 ∷ reply 2 1 ∷ []) ∷ (reply 0 4 ∷ reply 1 5 ∷ reply 0 6 ∷ reply 0 8 ∷ []) ∷ [])
+    ≡ shown 2 (8 ∷ 8 ∷ []) (0 ∷ 0 ∷ [])
+    ∷ record { calls = (called 1 ∷ []) ∷ (called 2 ∷ called 4 ∷ []) ∷ []; ending = Rested 5 (pins (8 ∷ 8 ∷ []) (7 ∷ 9 ∷ [])) }
+    ∷ record { calls = (called 1 ∷ []) ∷ (called 2 ∷ called 6 ∷ []) ∷ []; ending = Rested 4 (pins (8 ∷ 8 ∷ []) (1 ∷ 9 ∷ [])) }
+    ∷ []
 unfolding words.number_of words.bit_of operators.selected_bit operators.turned_bit operators.extended_bit operators.shifted_bit operators.replaced_bit
 calls_run_0 = refl
 

@@ -25,7 +25,7 @@ use Rattle.el_design.specs.Rules.{max_u, max_s, max_products, max_nets_size, pro
 use Rattle.el_design.proofs.OrderLists.{con_nil, con_mapped}
 use Rattle.el_design.proofs.OrderPlaces.{got_con}
 use Rattle.el_design.proofs.Texts.{met_in_place, in_place_met}
-use Rattle.el_design.proofs.Sample.{at, reg, input, u, posedge, block, always, initial, assign, later, byte, exprs, design}
+use Rattle.el_design.proofs.Sample.{at, reg, input, clock, u, posedge, block, always, initial, assign, later, byte, exprs, design}
 use Rattle.el_design.proofs.SizeRows as sizes
 use Rattle.el_design.proofs.Races as races
 
@@ -47,19 +47,19 @@ second_has d q p ps e st = met_in_place (meets_second d q p ps e st)
 
 -- `always begin if (a) @(posedge clk); end`: one branch waits, the other doesn't
 abbrev one_branch : Flat
-one_branch = design [] (input 1 ∷ []) (always (Block (at 1) None (block (If (at 2) (NetValue (u 1) 1) posedge Null ∷ []))) ∷ []) (1 ∷ []) []
+one_branch = design [] (input 1 ∷ []) (always (Block (at 10) None (block (If (at 11) (NetValue (u 1) 1) posedge Null ∷ []))) ∷ []) (1 ∷ []) []
 
-one_branch_spins : SpinsAt one_branch (at 1)
+one_branch_spins : SpinsAt one_branch (at 5)
 one_branch_spins = always_spins (0, omega arith, refl) refl
     (walk.then (walk.quietly refl) (walk.then (walk.quietly refl) (walk.then (walk.goes_no (λ e. cc)) (walk.then (walk.quietly refl) (walk.then (walk.quietly refl) walk.stays)))))
 
 -- `for (i = 0; i < 1025; i = i + 1) s = s + 1;`: one turn too many
-turns_once_more : TurnsTooOften (sizes.looping (sizes.loop 1 1025 sizes.more_by_one)) (at 1)
+turns_once_more : TurnsTooOften (sizes.looping (sizes.loop 1 1025 sizes.more_by_one)) (at 10)
 turns_once_more = too_many (sizes.initially (sizes.loop 1 1025 sizes.more_by_one) [] (sizes.loop 1 1025 sizes.more_by_one) itself) refl (sizes.takes_turns (sizes.loop 1 1025 sizes.more_by_one) true 1025 sizes.more_by_one (omega arith) (sizes.sum_is_free (sizes.loop 1 1025 sizes.more_by_one) 1 (λ e. omega (arith, e)))) (omega arith) (walk.then walk.assigns walk.stays)
 
 -- `initial while (a) x = 1;`: the body doesn't wait, and no text tells how often it is run
 abbrev asked_loop : Statement
-asked_loop = While (at 2) (NetValue (u 1) 1) (assign 0 (byte 1))
+asked_loop = While (at 10) (NetValue (u 1) 1) (assign 0 (byte 1))
 
 abbrev no_wait : Flat
 no_wait = design (reg 8 ∷ []) (input 1 ∷ []) (initial asked_loop ∷ []) (1 ∷ []) []
@@ -67,7 +67,7 @@ no_wait = design (reg 8 ∷ []) (input 1 ∷ []) (initial asked_loop ∷ []) (1 
 asked_without_bound : HasBound no_wait asked_loop → ⊥
 asked_without_bound (bound_while c e) = cc
 
-asked_loop_spins : SpinsAt no_wait (at 2)
+asked_loop_spins : SpinsAt no_wait (at 10)
 asked_loop_spins = loop_spins (loop_of_process (meets_first no_wait _ _ refl itself)) refl asked_without_bound (walk.then walk.assigns walk.stays)
 
 -- `for (i = 0; i >= 0; i = i + 1) s = s + 1;` where i is unsigned: the test never fails
@@ -75,24 +75,24 @@ abbrev number : ℕ → Expr
 number n = Number (u 32) (word 32 n)
 
 abbrev endless : Statement
-endless = For (at 1) 1 (number 0) (Binary (u 1) op.Ge (Variable (u 32) 1) (number 0)) (Binary (u 32) op.Add (Variable (u 32) 1) (number 1)) sizes.more_by_one
+endless = For (at 10) 1 (number 0) (Binary (u 1) op.Ge (Variable (u 32) 1) (number 0)) (Binary (u 32) op.Add (Variable (u 32) 1) (number 1)) sizes.more_by_one
 
 never_below : (x : Word) → is_up (truth (not (lt_of x (word 32 0) false))) ≡ true
 never_below x = let e : nat_lt x.value 0 ≡ false = grind (arith, nat_tests) in ap (λ b. is_up (truth (not b))) e
 
-endless_without_end : TurnsTooOften (sizes.looping endless) (at 1)
+endless_without_end : TurnsTooOften (sizes.looping endless) (at 10)
 endless_without_end = without_end (loop_of_process (meets_first (sizes.looping endless) _ _ refl itself)) refl
     (endless_for (record { start_is = refl; test_is = refl; step_is = refl; free = sizes.sum_is_free endless 1 (λ e. omega (arith, e)) }) (λ k. never_below (stored (turned (sizes.looping endless) 1 (number 0) (Binary (u 32) op.Add (Variable (u 32) 1) (number 1)) k) 1 0 32)))
     (walk.then walk.assigns walk.stays)
 
 -- two loops of 150 turns in one another: U is 343,526, whatever counts their turns rightly
-two_loops_large : (times : List ℕ → Statement → ℕ) → CountsTurns (sizes.looping sizes.outer) times → IsTooLarge (sizes.looping sizes.outer) (at 1)
+two_loops_large : (times : List ℕ → Statement → ℕ) → CountsTurns (sizes.looping sizes.outer) times → IsTooLarge (sizes.looping sizes.outer) (at 5)
 two_loops_large times c = large_u times c (0, omega arith, refl) (subst (λ n. max_u < n) (sym (sizes.counted_twice_u times c)) (omega arith))
 
 -- ---- tasks, functions and imports (rules 50, 51, 52, 53, 62 and 82)
 
 -- fifteen tasks, each with two enables of the one before it
-doubling_large : NestsTooDeep sizes.doubling (at 1)
+doubling_large : NestsTooDeep sizes.doubling (at 5)
 doubling_large = process_large (0, omega arith, refl) (subst (λ n. max_u < 1 + n) (sym (sizes.doubling_size once)) (omega arith))
 
 -- an enable of a task on a line
@@ -102,7 +102,7 @@ enable line t = Enable (at line) t [] []
 -- tasks of which each but the first enables the one before it, and a process that enables the last
 abbrev one_down : ℕ → Statement
 one_down zero = Null
-one_down (suc k) = enable 1 k
+one_down (suc k) = enable 10 k
 
 abbrev task : ℕ → FlatTask
 task k = record { mark = k; ins = []; outs = []; body = one_down k }
@@ -112,7 +112,7 @@ tasks_from j zero = []
 tasks_from j (suc n) = task j ∷ tasks_from (suc j) n
 
 abbrev enabling : ℕ → Flat
-enabling k = record (design [] [] (initial (enable 1 k) ∷ []) [] []) { tasks = tasks_from 0 (suc k); marks = suc k }
+enabling k = record (design [] [] (initial (enable 11 k) ∷ []) [] []) { tasks = tasks_from 0 (suc k); marks = suc k }
 
 task_at : (j n k m : ℕ) → k < n → m ≡ j + k → slice_get (tasks_from j n) k ≡ Some (task m)
 task_at j zero k m h e = absurd (omega (arith, h))
@@ -124,7 +124,7 @@ chain_of_tasks m zero h = no_more
 chain_of_tasks m (suc k) h = one_more ([], itself) enables (task_body (task_at 0 (suc m) k k (omega (arith, h)) (omega arith))) (chain_of_tasks m k (omega (arith, h)))
 
 -- 65 of them
-nested_tasks : NestsTooDeep (enabling 64) (at 1)
+nested_tasks : NestsTooDeep (enabling 64) (at 5)
 nested_tasks = process_nests (0, omega arith, refl) (one_more ([], itself) enables (task_body (task_at 0 65 64 64 (omega arith) (omega arith))) (chain_of_tasks 64 64 (omega arith)))
 
 -- functions of which each but the first adds two calls of the one before it, and a net that calls the last
@@ -158,17 +158,17 @@ chain_of_functions m (suc k) h =
     one_more ([], itself) (calls (omega (arith, h, all)) (0, omega arith, refl)) (function_body (function_at 0 (suc m) k k (omega (arith, h)) (omega arith))) (chain_of_functions m k (omega (arith, h)))
 
 -- 65 of them
-nested_functions : NestsTooDeep (summing 64) (at 1)
+nested_functions : NestsTooDeep (summing 64) (at 4)
 nested_functions = net_nests {f = 64} (1, omega arith, refl) refl (0, omega arith, refl) (function_body (function_at 0 65 64 64 (omega arith) (omega arith))) (chain_of_functions 64 64 (omega arith))
 
 -- `task t; begin t2; end endtask task t2; begin t; end endtask`: the break is at the enable of `t2`
 abbrev in_a_circle : Flat
-in_a_circle = record (design [] [] (initial (enable 3 0) ∷ []) [] []) {
-  tasks = record { mark = 0; ins = []; outs = []; body = Block (at 1) None (block (enable 1 1 ∷ [])) } ∷ record { mark = 1; ins = []; outs = []; body = Block (at 2) None (block (enable 2 0 ∷ [])) } ∷ [];
+in_a_circle = record (design [] [] (initial (enable 14 0) ∷ []) [] []) {
+  tasks = record { mark = 0; ins = []; outs = []; body = Block (at 10) None (block (enable 11 1 ∷ [])) } ∷ record { mark = 1; ins = []; outs = []; body = Block (at 12) None (block (enable 13 0 ∷ [])) } ∷ [];
   marks = 2;
 }
 
-circle_recursive : IsRecursive in_a_circle (at 1)
+circle_recursive : IsRecursive in_a_circle (at 11)
 circle_recursive = leads_back {a = TaskOf 0} {b = TaskOf 1} (leads (task_body refl) ([], in_block (in_first itself)) enables)
     (onward (leads (task_body refl) ([], in_block (in_first itself)) enables) there)
 
@@ -176,14 +176,14 @@ circle_recursive = leads_back {a = TaskOf 0} {b = TaskOf 1} (leads (task_body re
 abbrev calls_itself : Flat
 calls_itself = record (design (reg 8 ∷ []) [] [] [] []) { funcs = record { ins = []; locals = []; result = 0; body = assign 0 (Call (u 8) 0 (exprs [])) } ∷ [] }
 
-calls_itself_recursive : IsRecursive calls_itself (at 1)
+calls_itself_recursive : IsRecursive calls_itself (at 6)
 calls_itself_recursive = leads_back {a = FunctionOf 0} {b = FunctionOf 0} (leads (function_body refl) ([], itself) (calls (omega arith) (0, omega arith, refl))) there
 
 -- a task with one formal, enabled without an argument
 abbrev no_argument : Flat
-no_argument = record (design (reg 8 ∷ []) [] (initial (enable 2 0) ∷ []) [] []) { tasks = record { mark = 0; ins = 0 ∷ []; outs = []; body = Null } ∷ []; marks = 1 }
+no_argument = record (design (reg 8 ∷ []) [] (initial (enable 10 0) ∷ []) [] []) { tasks = record { mark = 0; ins = 0 ∷ []; outs = []; body = Null } ∷ []; marks = 1 }
 
-no_argument_misfit : HasMisfit no_argument (at 2)
+no_argument_misfit : HasMisfit no_argument (at 10)
 no_argument_misfit = misfit_enable (in_process (0, omega arith, refl) ([], itself)) refl
 
 -- `h(1);` of an import without formals
@@ -191,9 +191,9 @@ abbrev void_import : Import
 void_import = record { name = []; ins = []; outs = []; result = None }
 
 abbrev host_argument : Flat
-host_argument = record (design [] [] (initial (Host (at 2) 0 (byte 1 ∷ []) None []) ∷ []) [] []) { imports = void_import ∷ [] }
+host_argument = record (design [] [] (initial (Host (at 10) 0 (byte 1 ∷ []) None []) ∷ []) [] []) { imports = void_import ∷ [] }
 
-host_argument_misfit : HasMisfit host_argument (at 2)
+host_argument_misfit : HasMisfit host_argument (at 10)
 host_argument_misfit = misfit_host (in_process (0, omega arith, refl) ([], itself)) refl
 
 -- `x = f(1);` of a function without formals
@@ -202,37 +202,37 @@ call_argument = record (design (reg 8 ∷ reg 8 ∷ []) [] (initial (assign 0 (C
   funcs = record { ins = []; locals = []; result = 1; body = assign 1 (byte 0) } ∷ [];
 }
 
-call_argument_misfit : HasMisfit call_argument (at 1)
+call_argument_misfit : HasMisfit call_argument (at 6)
 call_argument_misfit = misfit_call (of_statement (in_process (0, omega arith, refl) ([], itself)) (0, omega arith, refl)) (0, omega arith, refl) (of_function refl)
 
 -- `initial begin : b x = 1; end` and `initial disable b;`
 abbrev block_of_other : Flat
-block_of_other = record (design (reg 8 ∷ []) [] (initial (Block (at 1) (Some 0) (block (assign 0 (byte 1) ∷ []))) ∷ initial (Disable (at 2) 0) ∷ []) [] []) { marks = 1 }
+block_of_other = record (design (reg 8 ∷ []) [] (initial (Block (at 10) (Some 0) (block (assign 0 (byte 1) ∷ []))) ∷ initial (Disable (at 11) 0) ∷ []) [] []) { marks = 1 }
 
 -- nothing but itself stands in a `disable`, so the second process has no block
 stands_in_disable : {tasks : List FlatTask} {marks o : List ℕ} {place : Place} {m : ℕ} {x : Statement} → Stands tasks marks (Disable place m) o x → Disable place m ≡ x
 stands_in_disable itself = refl
 
-second_meets : {marks : List ℕ} {x : Statement} → Meets block_of_other 1 marks x → Disable (at 2) 0 ≡ x
+second_meets : {marks : List ℕ} {x : Statement} → Meets block_of_other 1 marks x → Disable (at 11) 0 ≡ x
 second_meets {marks = marks} {x = x} m =
-    let e : Disable (at 2) 0 ≡ m.process.body = ap (λ o. elim o [ Some p ↦ p.body | None ↦ Disable (at 2) 0 ]) m.is in
+    let e : Disable (at 11) 0 ≡ m.process.body = ap (λ o. elim o [ Some p ↦ p.body | None ↦ Disable (at 11) 0 ]) m.is in
     stands_in_disable (subst (λ s. Stands [] [] s marks x) (sym e) m.stands)
 
 second_has_none : IsPart block_of_other 1 0 → ⊥
 second_has_none (block_part h) = let e : _ ≡ _ = second_meets (in_place_met h).1 in cc
 second_has_none (task_part h e i) = let e : _ ≡ _ = second_meets (in_place_met h).1 in cc
 
-block_of_other_disables : DisablesWrongly block_of_other (at 2)
+block_of_other_disables : DisablesWrongly block_of_other (at 11)
 block_of_other_disables = not_own {p = 1} (second_has block_of_other _ _ _ refl itself) second_has_none
 
 -- `task t; begin : b @(posedge clk); if (a) disable b; end endtask`, enabled by two processes
 abbrev block_of_two : Flat
-block_of_two = record (design [] (input 1 ∷ []) (always (enable 4 0) ∷ always (enable 5 0) ∷ []) (1 ∷ []) []) {
-  tasks = record { mark = 0; ins = []; outs = []; body = Block (at 1) (Some 1) (block (posedge ∷ If (at 2) (NetValue (u 1) 1) (Disable (at 3) 1) Null ∷ [])) } ∷ [];
+block_of_two = record (design [] (input 1 ∷ []) (always (enable 13 0) ∷ always (enable 14 0) ∷ []) (1 ∷ []) []) {
+  tasks = record { mark = 0; ins = []; outs = []; body = Block (at 10) (Some 1) (block (posedge ∷ If (at 11) (NetValue (u 1) 1) (Disable (at 12) 1) Null ∷ [])) } ∷ [];
   marks = 2;
 }
 
-block_of_two_disables : DisablesWrongly block_of_two (at 3)
+block_of_two_disables : DisablesWrongly block_of_two (at 12)
 block_of_two_disables = also_other {p = 0} {q = 1}
     (first_has block_of_two _ _ refl (in_task refl (in_named (in_rest (in_first (in_then itself))))))
     (λ e. omega (arith, e)) (block_part (second_has block_of_two _ _ _ refl (in_task refl itself)))
@@ -243,37 +243,37 @@ asks_inside = record (design (reg 8 ∷ []) [] (initial (assign 0 (Binary (u 8) 
   imports = void_import ∷ [];
 }
 
-asks_inside_calls : CallsHostInside asks_inside (at 1)
+asks_inside_calls : CallsHostInside asks_inside (at 6)
 asks_inside_calls = inside_statement (first_has asks_inside _ _ refl itself) (0, omega arith, refl) (0, omega arith, refl) (import_number {i = 0} refl)
 
 -- `assign a = h();`
 abbrev asks_in_net : Flat
 asks_in_net = record (design [] (record (input 8) { value = Some (Call (u 8) 0 (exprs [])) } ∷ []) [] [] []) { imports = void_import ∷ [] }
 
-asks_in_net_calls : CallsHostInside asks_in_net (at 1)
+asks_in_net_calls : CallsHostInside asks_in_net (at 4)
 asks_in_net_calls = inside_net (1, omega arith, refl) refl (0, omega arith, refl) (import_number {i = 0} refl)
 
--- functions: `f = x` where x is a variable of the module; `f = f + 1`; and an empty body
+-- functions, of which the name stands on line 10: `f = x` where x is a variable of the module; `f = f + 1`; and an empty body
 abbrev with_function : Statement → Flat
-with_function s = record (design (reg 8 ∷ reg 8 ∷ []) [] [] [] []) { funcs = record { ins = []; locals = []; result = 1; body = s } ∷ [] }
+with_function s = record (design (reg 8 ∷ record (reg 8) { place = at 10 } ∷ []) [] [] [] []) { funcs = record { ins = []; locals = []; result = 1; body = s } ∷ [] }
 
-reads_outside : IsImpure (with_function (assign 1 (Variable (u 8) 0))) (at 1)
+reads_outside : IsImpure (with_function (assign 1 (Variable (u 8) 0))) (at 6)
 reads_outside = outside (0, omega arith, refl) ([], itself) refl
 
-reads_early_shown : IsImpure (with_function (assign 1 (Binary (u 8) op.Add (Variable (u 8) 1) (byte 1)))) (at 1)
+reads_early_shown : IsImpure (with_function (assign 1 (Binary (u 8) op.Add (Variable (u 8) 1) (byte 1)))) (at 10)
 reads_early_shown = early (0, omega arith, refl) refl (result_place refl refl)
 
-leaves_its_result : IsImpure (with_function Null) (at 1)
+leaves_its_result : IsImpure (with_function Null) (at 10)
 leaves_its_result = leaves (0, omega arith, refl) refl (result_place refl refl)
 
-waits_in_function : IsImpure (with_function posedge) (at 1)
+waits_in_function : IsImpure (with_function posedge) (at 8)
 waits_in_function = foreign (0, omega arith, refl) ([], itself) refl
 
 -- `function f; begin : b disable b; f = 0; end endfunction`: a function may disable nothing, a block of its own neither
 abbrev own_block : Flat
-own_block = record (with_function (Block (at 1) (Some 0) (block (Disable (at 2) 0 ∷ assign 1 (byte 0) ∷ [])))) { marks = 1 }
+own_block = record (with_function (Block (at 11) (Some 0) (block (Disable (at 12) 0 ∷ assign 1 (byte 0) ∷ [])))) { marks = 1 }
 
-own_block_disables : DisablesWrongly own_block (at 2)
+own_block_disables : DisablesWrongly own_block (at 12)
 own_block_disables = in_function (0, omega arith, refl) (0 ∷ [], in_named (in_first itself))
 
 -- ---- sizes where there is no loop (rule 84)
@@ -326,7 +326,7 @@ waiting_products : (n : ℕ) → products (waiting n) once once ≡ sum ((1 + n)
 waiting_products n = ap₂ (λ s u. sum (s * u ∷ s * u ∷ [])) (waiting_s n) (waiting_u n)
 
 -- 512 waits: S is 513
-waits_large : IsTooLarge (waiting 512) (at 1)
+waits_large : IsTooLarge (waiting 512) (at 5)
 waits_large = large_s once (stops_once (waiting 512) (waiting_no_loop 512)) (0, omega arith, refl) (subst (λ n. max_s < n) (sym (waiting_s 512)) (omega arith))
 
 -- 511 waits: S and U are 512, and the sum of two products is 524,288
@@ -381,7 +381,7 @@ nets_large =
 
 -- ---- races and loops of nets (rules 70 to 73)
 
-two_writers : TwoWriters races.two_write (at 1)
+two_writers : TwoWriters races.two_write (at 3)
 two_writers = two_write {p = 0} {q = 1} refl (λ e. omega (arith, e))
     (by_blocking (writes_blocking (first_has races.two_write _ _ refl itself) (0, omega arith, refl))) (by_blocking (writes_blocking (second_has races.two_write _ _ _ refl itself) (0, omega arith, refl)))
 
@@ -389,15 +389,15 @@ two_writers = two_write {p = 0} {q = 1} refl (λ e. omega (arith, e))
 abbrev both_kinds : Flat
 both_kinds = design (reg 8 ∷ []) [] (initial (block (later 0 (byte 1) ∷ assign 0 (byte 2) ∷ [])) ∷ []) [] (0 ∷ [])
 
-written_both_ways : WrittenBothWays both_kinds (at 1)
+written_both_ways : WrittenBothWays both_kinds (at 3)
 written_both_ways = both_ways {p = 0} refl (writes_blocking (first_has both_kinds _ _ refl (in_rest (in_first itself))) (0, omega arith, refl))
     (writes_nonblocking (first_has both_kinds _ _ refl (in_first itself)) (0, omega arith, refl))
 
-read_across : ReadAcross races.reads_across (at 1)
+read_across : ReadAcross races.reads_across (at 3)
 read_across = variable_across {p = 0} {q = 1} {v = 0} refl (writes_blocking (first_has races.reads_across _ _ refl itself) (0, omega arith, refl)) (λ e. omega (arith, e))
     (reads (second_has races.reads_across _ _ _ refl itself) (0, omega arith, refl))
 
-read_over_net : ReadAcross races.over_net (at 1)
+read_over_net : ReadAcross races.over_net (at 4)
 read_over_net = net_across {p = 0} {q = 1} {v = 0} {n = 1} refl (writes_blocking (first_has races.over_net _ _ refl itself) (0, omega arith, refl))
     (names_it (record { net = _; is = refl; value = refl }) (0, omega arith, refl)) (reads_net (second_has races.over_net _ _ _ refl itself) (0, omega arith, refl))
 
@@ -405,18 +405,18 @@ read_over_net = net_across {p = 0} {q = 1} {v = 0} {n = 1} refl (writes_blocking
 abbrev own_value : Flat
 own_value = design [] (record (input 8) { value = Some (NetValue (u 8) 1) } ∷ []) [] [] []
 
-own_value_circle : NetsInCircle own_value (at 1)
+own_value_circle : NetsInCircle own_value (at 4)
 own_value_circle = circle {n = 1} refl (depends (record { net = _; is = refl; value = refl }) (0, omega arith, refl))
 
 -- ---- the first break
 
--- `assign a = a;` on line 1, and on each of lines 2 and 3 a net whose expression calls a void import. Named is that the import has no result, on line 2:
--- the loop of nets is of a later pass, line 3 comes later, and that an expression calls the host is the rule of a greater number.
+-- `assign a = a;` on line 4, and on each of lines 5 and 6 a net whose expression calls a void import. Named is that the import has no result, on line 5:
+-- the loop of nets is of a later pass, line 6 comes later, and that an expression calls the host is the rule of a greater number.
 abbrev asks : ℕ → FlatNet
 asks line = record (input 8) { value = Some (Call (u 8) 0 (exprs [])); place = at line }
 
 abbrev five_breaks : Flat
-five_breaks = record (design [] (record (input 8) { value = Some (NetValue (u 8) 1) } ∷ asks 2 ∷ asks 3 ∷ []) [] [] []) { imports = void_import ∷ [] }
+five_breaks = record (design [] (record (input 8) { value = Some (NetValue (u 8) 1) } ∷ asks 5 ∷ asks 6 ∷ []) [] [] []) { imports = void_import ∷ [] }
 
 -- a net that is at a place of a list has the value and the place of what stands there
 same_value : (a b : FlatNet) → Some a ≡ Some b → a.value ≡ b.value
@@ -428,14 +428,14 @@ same_place a b e = ap (λ o. elim o [ Some n ↦ n.place | None ↦ a.place ]) e
 same_expression : (a b : Expr) → Some a ≡ Some b → a ≡ b
 same_expression a b e = cc
 
--- the nets with calls stand on line 2 or 3
-lines_of_calls : (i f : ℕ) (net : FlatNet) (e : Expr) → slice_get five_breaks.nets i ≡ Some net → net.value ≡ Some e → Contains (calls_in e) f → (at 3 ≡ net.place) ⊎ (at 2 ≡ net.place)
-lines_of_calls zero f net e is v c = let none : None ≡ Some e = same_value (input 1) net is ∙ v in cc
+-- the nets with calls stand on line 5 or 6
+lines_of_calls : (i f : ℕ) (net : FlatNet) (e : Expr) → slice_get five_breaks.nets i ≡ Some net → net.value ≡ Some e → Contains (calls_in e) f → (at 6 ≡ net.place) ⊎ (at 5 ≡ net.place)
+lines_of_calls zero f net e is v c = let none : None ≡ Some e = same_value clock net is ∙ v in cc
 lines_of_calls (suc zero) f net e is v c =
     let own : NetValue (u 8) 1 ≡ e = same_expression (NetValue (u 8) 1) e (same_value (record (input 8) { value = Some (NetValue (u 8) 1) }) net is ∙ v) in
     absurd (con_nil f (subst (λ x. Contains (calls_in x) f) (sym own) c))
-lines_of_calls (suc (suc zero)) f net e is v c = inr (same_place (asks 2) net is)
-lines_of_calls (suc (suc (suc zero))) f net e is v c = inl (same_place (asks 3) net is)
+lines_of_calls (suc (suc zero)) f net e is v c = inr (same_place (asks 5) net is)
+lines_of_calls (suc (suc (suc zero))) f net e is v c = inl (same_place (asks 6) net is)
 lines_of_calls (suc (suc (suc (suc i)))) f net e is v c = cc
 
 -- the design has no task, function or process
@@ -457,7 +457,7 @@ misfit_called (of_import {f = f} i m) = (f, refl)
 
 -- the break that is named
 abbrev named : Refusal
-named = record { rule = record { 0 = 52 }; place = at 2 }
+named = record { rule = record { 0 = 52 }; place = at 5 }
 
 -- a break of this rule at this place doesn't stand before it
 abbrev Least : ℕ → Place → Type 0
@@ -466,7 +466,7 @@ Least rule b = stands_before (record { rule = record { 0 = rule }; place = b }) 
 least_of_nets : (rule f : ℕ) (net : FlatNet) (e : Expr) → 52 ≤ rule → Contains five_breaks.nets net → net.value ≡ Some e → Contains (calls_in e) f → Least rule net.place
 least_of_nets rule f net e l c v h = go (lines_of_calls (got_con five_breaks.nets net c).0 f net e (got_con five_breaks.nets net c).1 v h)
   where
-    go : (at 3 ≡ net.place) ⊎ (at 2 ≡ net.place) → Least rule net.place
+    go : (at 6 ≡ net.place) ⊎ (at 5 ≡ net.place) → Least rule net.place
     go (inl e) = subst (Least rule) e refl
     go (inr e) = subst (Least rule) e (let m : nat_lt rule 52 ≡ false = grind (arith, nat_tests, l) in m)
 

@@ -51,16 +51,19 @@ abbrev pub events_of : Flat → List Word → List (List Reply) → ℕ
 events_of d row replies =
     (play 1000 d 0 0 (record { edge = 0; row = row; store = start_store d; nets = settled d row (start_store d); procs = map started (zip d.procs replies) })).1
 
--- ---- parts of designs
+-- ---- parts of designs, each kind of part on a line of its own, and each statement that a row writes out from line 10 on
 
 abbrev pub at : ℕ → Place
 at line = record { file = 0; line = line; instance = 0 }
 
 abbrev pub reg : ℕ → Var
-reg w = record { name = []; width = w; signed = false; lsb = 0; words = 0; low = 0; start = word w 0; place = at 1 }
+reg w = record { name = []; width = w; signed = false; lsb = 0; words = 0; low = 0; start = word w 0; place = at 3 }
 
 abbrev pub input : ℕ → FlatNet
-input w = record { width = w; signed = false; lsb = 0; value = None; place = at 1 }
+input w = record { width = w; signed = false; lsb = 0; value = None; place = at 4 }
+
+abbrev pub clock : FlatNet
+clock = record (input 1) { place = at 2 }
 
 abbrev pub out : ℕ → Pin
 out v = record { name = []; from = source.Var v }
@@ -69,23 +72,23 @@ abbrev pub u : ℕ → Shape
 u w = record { width = w; signed = false }
 
 abbrev pub posedge : Statement
-posedge = Wait (at 1) false
+posedge = Wait (at 8) false
 
 abbrev pub block : List Statement → Statement
 block [] = Skip
 block (s ∷ ss) = Seq s (block ss)
 
 abbrev pub always : Statement → FlatProc
-always s = record { always = true; body = s; place = at 1 }
+always s = record { always = true; body = s; place = at 5 }
 
 abbrev pub bytes : List ℕ → List (List Word)
 bytes ns = map (λ n. word 8 n ∷ []) ns
 
 abbrev pub assign : ℕ → Expr → Statement
-assign v e = Assign (at 1) (ToVariable v) e false
+assign v e = Assign (at 6) (ToVariable v) e false
 
 abbrev pub later : ℕ → Expr → Statement
-later v e = Assign (at 1) (ToVariable v) e true
+later v e = Assign (at 7) (ToVariable v) e true
 
 abbrev pub signed : ℕ → Shape
 signed w = record { width = w; signed = true }
@@ -97,7 +100,7 @@ abbrev pub int : ℕ → Expr
 int n = Number (signed 32) (word 32 n)
 
 abbrev pub initial : Statement → FlatProc
-initial s = record { always = false; body = s; place = at 1 }
+initial s = record { always = false; body = s; place = at 5 }
 
 abbrev pub exprs : List Expr → Exprs
 exprs [] = NoExpr
@@ -105,7 +108,7 @@ exprs (e ∷ es) = More e (exprs es)
 
 -- a design of these variables and nets, of which the first net is the clock and the others are input pins, with these processes and output variables
 abbrev pub design : List Var → List FlatNet → List FlatProc → List ℕ → List ℕ → Flat
-design vars nets procs pins outs = record { vars = vars; nets = input 1 ∷ nets; tasks = []; funcs = []; imports = []; procs = procs; marks = 0; inputs = pins; outputs = map out outs; head = at 1 }
+design vars nets procs pins outs = record { vars = vars; nets = clock ∷ nets; tasks = []; funcs = []; imports = []; procs = procs; marks = 0; inputs = pins; outputs = map out outs; head = at 1 }
 
 -- no replies for so many processes
 abbrev pub none_for : ℕ → List (List Reply)

@@ -22,11 +22,11 @@ use Rattle.el_design.proofs.Sample.{at, reg, input, u, signed, posedge, block, a
 -- ---- `always begin`, 200 lines `if (d[0]) begin @(posedge clk); n <= n + 1; end`, `@(posedge clk); end`
 
 abbrev branch : Statement
-branch = If (at 1) (Select (u 1) (NetValue (u 8) 1) (Bit (int 0)) 0)
-    (Block (at 1) None (block (posedge ∷ later 0 (Binary (u 32) op.Add (Resize (u 32) (Variable (u 16) 0)) (int 1)) ∷ []))) Null
+branch = If (at 10) (Select (u 1) (NetValue (u 8) 1) (Bit (int 0)) 0)
+    (Block (at 11) None (block (posedge ∷ later 0 (Binary (u 32) op.Add (Resize (u 32) (Variable (u 16) 0)) (int 1)) ∷ []))) Null
 
 abbrev branches : FlatProc
-branches = always (Block (at 1) None (block (replicate 200 branch ++ posedge ∷ [])))
+branches = always (Block (at 12) None (block (replicate 200 branch ++ posedge ∷ [])))
 
 abbrev branching : Flat
 branching = design (reg 16 ∷ []) (input 8 ∷ []) (branches ∷ []) (1 ∷ []) (0 ∷ [])
@@ -44,7 +44,7 @@ abbrev i_of : ℕ → Expr
 i_of v = Variable (signed 32) v
 
 abbrev pub loop : ℕ → ℕ → Statement → Statement
-loop v n body = For (at 1) v (int 0) (Binary (u 1) op.Lt (i_of v) (int n)) (Binary (signed 32) op.Add (i_of v) (int 1)) body
+loop v n body = For (at 10) v (int 0) (Binary (u 1) op.Lt (i_of v) (int n)) (Binary (signed 32) op.Add (i_of v) (int 1)) body
 
 abbrev pub more_by_one : Statement
 more_by_one = assign 0 (Binary (u 32) op.Add (Resize (u 32) (Variable (u 16) 0)) (int 1))
@@ -185,14 +185,14 @@ abbrev task : ℕ → Statement → FlatTask
 task mark body = record { mark = mark; ins = []; outs = []; body = body }
 
 abbrev twice : ℕ → Statement
-twice t = Block (at 1) None (block (Enable (at 1) t [] [] ∷ Enable (at 1) t [] [] ∷ []))
+twice t = Block (at 13) None (block (Enable (at 14) t [] [] ∷ Enable (at 15) t [] [] ∷ []))
 
 abbrev doubles : ℕ → ℕ → List FlatTask
 doubles k zero = []
 doubles k (suc n) = task (k + 1) (twice k) ∷ doubles (k + 1) n
 
 abbrev pub doubling : Flat
-doubling = record (design (reg 1 ∷ []) [] (initial (Enable (at 1) 15 [] []) ∷ []) [] (0 ∷ [])) { tasks = task 0 (assign 0 (int 1)) ∷ doubles 0 15; marks = 16 }
+doubling = record (design (reg 1 ∷ []) [] (initial (Enable (at 16) 15 [] []) ∷ []) [] (0 ∷ [])) { tasks = task 0 (assign 0 (int 1)) ∷ doubles 0 15; marks = 16 }
 
 abbrev size_at : (List ℕ → Statement → ℕ) → ℕ → List ℕ → ℕ → ℕ
 size_at times n marks t = (counting doubling times n).tasks marks t
@@ -218,7 +218,7 @@ all_doubled times zero marks h = refl
 all_doubled times (suc k) marks h =
     doubled times (suc k) k (sizes k) marks (doubles_at 0 15 k k (omega (arith, h)) (omega arith)) (λ more. all_doubled times k more (omega (arith, h))) ∙ omega arith
 
-pub doubling_size : (times : List ℕ → Statement → ℕ) → size_of (in_place doubling times) [] (Enable (at 1) 15 [] []) ≡ 262141
+pub doubling_size : (times : List ℕ → Statement → ℕ) → size_of (in_place doubling times) [] (Enable (at 16) 15 [] []) ≡ 262141
 doubling_size times = ap (λ n. 2 + n) (all_doubled times 15 [] (omega arith))
 
 -- ---- over all instances: each body counts once, a loop's too, and an enable without the body

@@ -1,5 +1,5 @@
 -- How a statement may be left without a clock wait, by its structure; the walks of `Walk` say the same step by step. All of it is this project's own.
-use Rattle.std.specs.Prelude.{◌≡◌, ◌==◌, ◌&&◌, ◌||◌, not, ℕ, zero, suc, Bool, true, false, List, [], ◌∷◌, Option, Some, None, Contains, slice_get}
+use Rattle.std.specs.Prelude.{◌≡◌, ◌==◌, ◌&&◌, ◌||◌, not, ℕ, zero, suc, Bool, true, false, List, [], ◌∷◌, Option, Some, None, Contains, slice_get, length}
 use Rattle.xt_base.specs.declared.refusals.Place.{Place}
 use Rattle.el_design.specs.Plain.{Expr, Statement, Null, Skip, Seq, Block, Assign, If, Case, Arm, For, While, Repeat, Forever, Wait, Enable, Disable, Host, FlatTask, Flat}
 use Rattle.el_design.specs.Assign.{has_label, count_of}
@@ -156,6 +156,21 @@ TellsRightly d told s = (at : Place) (v : ℕ) (first test next : Expr) (body : 
 -- of each task the exits of its body
 abbrev pub AreOfTasks : Flat → (Statement → Told) → TaskExits → Type 0
 AreOfTasks d told tasks = (t : ℕ) (task : FlatTask) (marks : List ℕ) → slice_get d.tasks t ≡ Some task → tasks t marks ≡ exits d told tasks Alone (task.mark ∷ marks) task.body
+
+-- ---- in place, with the bodies of tasks
+
+abbrev pub body_exits : Flat → (Statement → Told) → TaskExits → List ℕ → Option FlatTask → Exits
+body_exits d told tasks marks None = no_exit
+body_exits d told tasks marks (Some t) = exits d told tasks Alone (t.mark ∷ marks) t.body
+
+-- where enables nest so deep at most
+abbrev pub exits_to : Flat → (Statement → Told) → ℕ → TaskExits
+exits_to d told zero t marks = no_exit
+exits_to d told (suc n) t marks = body_exits d told (exits_to d told n) marks (slice_get d.tasks t)
+
+-- In a design in which no task leads back to itself, no chain of enables is longer than there are tasks.
+abbrev pub exits_in_place : Flat → (Statement → Told) → TaskExits
+exits_in_place d told = exits_to d told (length d.tasks)
 
 -- ---- walks
 

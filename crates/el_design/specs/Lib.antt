@@ -28,8 +28,11 @@ pub mod Places
 pub mod Bodies
 pub mod Laws
 pub mod RunLaws
+pub mod RuleLaws
 pub mod CallLaws
 pub mod Witnesses
 pub mod Progression
 pub mod CountedLoops
 pub mod Exits
+pub mod Lengths
+pub mod Loops

@@ -1,5 +1,5 @@
--- Laws of runs: a chooser has one run, nets settle, and an event leaves as it was what isn't its process's own. All of it is this project's own.
-use Rattle.std.specs.Prelude.{◌≡◌, ◌≢◌, ℕ, Bool, true, false, List, [], Some, get_or, slice_get}
+-- Laws of runs: choosers and their runs, nets settle, and an event leaves as it was what isn't its process's own. All of it is this project's own.
+use Rattle.std.specs.Prelude.{◌≡◌, ◌≢◌, ◌%◌, ℕ, Bool, true, false, List, [], ◌∷◌, Some, Contains, get_or, slice_get, length}
 use Rattle.std.specs.List.{list_all}
 use Rattle.xt_bits.specs.Word.{Word}
 use Rattle.xt_bits.specs.Stimulus.{Stimulus}
@@ -7,7 +7,8 @@ use Rattle.xt_bits.specs.Trace.{Trace}
 use Rattle.el_design.specs.Plain.{Flat}
 use Rattle.el_design.specs.Store.{Store}
 use Rattle.el_design.specs.Queue.{Config, Event, Run, Follow, Update, take}
-use Rattle.el_design.specs.Run.{IsSettled, Takes, Any, RunsBy}
+use Rattle.el_design.specs.Run.{IsSettled, Takes, Any, First, Picked, RunsBy, Runs}
+use Rattle.el_design.specs.Fits.{FitsConfig}
 use Rattle.el_design.specs.Touches.{WritesBlocking, WritesNonblocking}
 use Rattle.el_design.specs.Laws.{EdgeBegins}
 
@@ -16,6 +17,39 @@ abbrev pub HasOneRun : Flat → (ℕ → List Event → Event → Type 0) → St
 HasOneRun d C x =
     (plays : List (List Event)) × (trace : Trace) × RunsBy d C x plays trace
     × ((others : List (List Event)) (other : Trace) → RunsBy d C x others other → (others ≡ plays) × (other ≡ trace))
+
+-- The choosers of which the laws speak: any event; the first; the one at a pick's place; the one at the place, modulo how many they are, that a function
+-- gives of the event's number in the run and of the events that may be taken; each that passes a test.
+pub data Chooser : Type 0 where
+  TakesAny : Chooser
+  TakesFirst : Chooser
+  TakesPicked : ℕ → Chooser
+  TakesAt : (ℕ → List Event → ℕ) → Chooser
+  TakesTested : (ℕ → List Event → Event → Bool) → Chooser
+
+-- what a chooser lets pass
+abbrev pub passed_by : Chooser → ℕ → List Event → Event → Type 0
+passed_by TakesAny = Any
+passed_by TakesFirst = First
+passed_by (TakesPicked pick) = Picked pick
+passed_by (TakesAt place) = λ k es e. slice_get es (place k es % length es) ≡ Some e
+passed_by (TakesTested test) = λ k es e. test k es e ≡ true
+
+-- it passes just one event of each list that has some
+abbrev pub PassesOne : Chooser → Type 0
+PassesOne c =
+    (k : ℕ) (e : Event) (es : List Event) →
+    (chosen : Event) × Contains (e ∷ es) chosen × passed_by c k (e ∷ es) chosen × ((other : Event) → passed_by c k (e ∷ es) other → other ≡ chosen)
+
+-- what runs under a chooser is a run
+abbrev pub RunsAmongAll : Flat → Chooser → Type 0
+RunsAmongAll d c = (x : Stimulus) (plays : List (List Event)) (trace : Trace) → RunsBy d (passed_by c) x plays trace → Runs d x plays trace
+
+-- a run under one chooser and a run under another, of one stimulus, have one trace
+abbrev pub HaveOneTrace : Flat → Chooser → Chooser → Type 0
+HaveOneTrace d a b =
+    (x : Stimulus) (plays others : List (List Event)) (trace other : Trace) →
+    RunsBy d (passed_by a) x plays trace → RunsBy d (passed_by b) x others other → trace ≡ other
 
 -- ---- nets
 
@@ -36,6 +70,12 @@ is_net_event (Update i) = false
 abbrev pub NetEventsSettle : Flat → Type 0
 NetEventsSettle d =
     (k : ℕ) (c : Config) (before : Store) → IsSettled d c.row before c.nets →
+    (es : List Event) × (nets : List Word) × (list_all is_net_event es ≡ true) × Takes d Any k c es (record c { nets = nets }) × IsSettled d c.row c.store nets
+
+-- So they do from each state that fits the design, in the middle of an edge too.
+abbrev pub FittingNetsSettle : Flat → Type 0
+FittingNetsSettle d =
+    (k : ℕ) (c : Config) → FitsConfig d c →
     (es : List Event) × (nets : List Word) × (list_all is_net_event es ≡ true) × Takes d Any k c es (record c { nets = nets }) × IsSettled d c.row c.store nets
 
 -- ---- what an event leaves as it was

@@ -9,3 +9,6 @@ returns-clause-one c = law.settled_nets_are_one
 
 pub returns-clause-events : goal.returns-clause-events
 returns-clause-events c = law.net_events_settle
+
+pub returns-clause-fitting : goal.returns-clause-fitting
+returns-clause-fitting c = law.fitting_nets_settle
