@@ -1,0 +1,11 @@
+pub mod SoundTests
+pub mod TextTests
+pub mod PlaceTests
+pub mod MeterSound
+pub mod MeterClean
+pub mod RunTests
+pub mod MeterRuns
+pub mod OperatorRows
+pub mod RuleRows
+pub mod LoopTests
+pub mod LoopRows
