@@ -1,0 +1,29 @@
+-- Parts put one behind another.
+use Rattle.std.proofs.Common.{◌≡◌, ◌++◌, ◌+◌, ◌<◌, ℕ, Bool, true, false, nat_lt, List, [], ◌∷◌, refl, sym, ◌∙◌, ap, length, drop, slice_index_or, arith}
+use Rattle.std.specs.Prelude.{flat_map}
+use Rattle.std.proofs.lemmas.List.{append_assoc, at_drop_more, get_or_append_left, get_or_push}
+
+pub two : {X : Type 0} (xs a b : List X) → (xs ++ a) ++ b ≡ xs ++ (a ++ b)
+two xs a b = append_assoc xs a b
+
+pub three : {X : Type 0} (xs a b c : List X) → ((xs ++ a) ++ b) ++ c ≡ xs ++ (a ++ (b ++ c))
+three xs a b c = two (xs ++ a) b c ∙ two xs a (b ++ c)
+
+-- a module's name, its header in two parts, and its items
+pub whole_module : {X : Type 0} (xs a b c d : List X) → ((xs ++ a) ++ (b ++ c)) ++ d ≡ xs ++ (a ++ (b ++ (c ++ d)))
+whole_module xs a b c d = three xs a (b ++ c) d ∙ ap (λ y. xs ++ (a ++ y)) (two b c d)
+
+-- one item more is done: what is there with what is left stays the same
+pub one_done : {X Y : Type 0} (f : X → List Y) (xs : List X) (i : ℕ) (x : X) (all into new : List Y) → i < length xs → x ≡ slice_index_or xs i x
+    → all ≡ into ++ flat_map f (drop i xs) → new ≡ into ++ f x → all ≡ new ++ flat_map f (drop (i + 1) xs)
+one_done f xs i x all into new lt e h k = h ∙ ap (λ y. into ++ y) (at_drop_more (flat_map f) xs i x lt)
+    ∙ ap (λ y. into ++ (f y ++ flat_map f (drop (i + 1) xs))) (sym e) ∙ sym (two into (f x) (flat_map f (drop (i + 1) xs))) ∙ ap (λ y. y ++ flat_map f (drop (i + 1) xs)) (sym k)
+
+-- one item more at the end: all that are there are as they should be
+pub one_put : {X : Type 0} (f : ℕ → X) (d : X) (xs new : List X) (x : X) (n : ℕ) → length xs ≡ n → new ≡ xs ++ x ∷ [] → x ≡ f n
+    → ((i : ℕ) → i < n → slice_index_or xs i d ≡ f i) → (i : ℕ) → i < n + 1 → slice_index_or new i d ≡ f i
+one_put f d xs new x n count e h each i lt = ap (λ ys. slice_index_or ys i d) e ∙ go (nat_lt i n) refl
+  where
+    go : (b : Bool) → nat_lt i n ≡ b → slice_index_or (xs ++ x ∷ []) i d ≡ f i
+    go true k = get_or_append_left xs (x ∷ []) d i (grind (arith, k, count)) ∙ each i (grind (arith, k))
+    go false k = let same : n ≡ i = grind (arith, k, lt) in get_or_push xs x d i (count ∙ same) ∙ h ∙ ap f same
