@@ -1,3 +1,6 @@
+pub mod Steps
+pub mod Bridges
+pub mod StatementHeads
 pub mod Turns
 pub mod Parts
 pub mod Names

@@ -1,5 +1,5 @@
 -- One turn of the loops over a list of parts.
-use Rattle.std.proofs.Common.{◌≡◌, ◌≢◌, ◌≤◌, ◌<◌, ◌||◌, ℕ, zero, suc, ◌+◌, ◌-◌, List, Option, Bool, true, false, Result, Ok, Err, slice_get, refl, sym, ap, subst, ◌∙◌, arith}
+use Rattle.std.proofs.Common.{◌≡◌, ◌≤◌, ◌<◌, ◌||◌, ℕ, zero, suc, ◌+◌, ◌-◌, List, Option, Bool, true, false, Result, Ok, Err, slice_get, refl, sym, ap, subst, ◌∙◌, arith}
 use Rattle.vl_tree.specs.declared.terminals.Terminal.{Terminal}
 use Rattle.vl_tree.specs.declared.terminals.Terminal.TheVariants as lex
 use Rattle.vl_tree.specs.declared.statements.Stmt.{Stmt}
@@ -11,8 +11,7 @@ use Rattle.vl_expr.proofs.Primaries.{bind_at, if_true, if_false}
 use Rattle.vl_expr.proofs.Turns.{gives_stuck, gives_along}
 use Rattle.vl_parse.specs.declared.part.Part.{Part}
 use Rattle.vl_parse.specs.Parts.{added, separated_from, many_from}
-use Rattle.vl_parse.specs.declared.classes.Opening.{Opening}
-use Rattle.vl_parse.specs.Statements.{opens_citem, next_citem, citems_from, opening_of, stmt_by, stmt_of}
+use Rattle.vl_parse.specs.Statements.{opens_citem, next_citem, citems_from}
 
 -- a turn before the last
 pub before : {turn r l : ℕ} → r ≡ l → turn < r → turn < l
@@ -85,12 +84,3 @@ citems_over ls below n (suc turns) had all e = if_false _ _ _ e
 pub citems_full : (ls : List Terminal) (below : ℕ → Reading (Part Stmt)) (n turn d : ℕ) (had : Bool) (all : Part (List Citem)) →
     d ≤ turn → citems_from ls below n (d - turn) had all ≡ Ok all
 citems_full ls below n turn d had all h = let e : d - turn ≡ 0 = omega arith in ap (λ k. citems_from ls below n k had all) e
-
--- one depth down
-pub stmt_up : (ls : List Terminal) (names : List (List ℕ)) (depth at : ℕ) (o : Opening) (r : Result (Part Stmt) ParseError) → depth ≢ 0 →
-    opening_of (slice_get ls at) ≡ o → Gives r (stmt_by ls names (stmt_of ls names (depth - 1)) (depth - 1) at o) → Gives r (stmt_of ls names depth at)
-stmt_up ls names zero at o r some e g = absurd (some refl)
-stmt_up ls names (suc n) at o r some e g =
-    let same : suc n - 1 ≡ n = omega arith in
-    gives_along r _ _ (ap (stmt_by ls names (stmt_of ls names n) n at) e)
-    (subst (λ k. Gives r (stmt_by ls names (stmt_of ls names k) k at o)) same g)

@@ -5,3 +5,4 @@ pub mod Statements
 pub mod Routines
 pub mod Modules
 pub mod Refusals
+pub mod inner

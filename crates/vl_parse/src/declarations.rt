@@ -3,13 +3,14 @@ ghost use Rattle.std.specs.Prelude.{◌≡◌, ◌<◌, ◌^◌, ◌-◌, ◌+�
 ghost use Rattle.vl_tree.specs.declared.terminals.Terminal.TheVariants as lex;
 ghost use Rattle.vl_expr.specs.Reading.{Gives};
 ghost use Rattle.vl_parse.specs.Parts.{separated_from};
-ghost use Rattle.vl_parse.specs.Declarations.{expr_at, exprs_at, args_at, selects_at, paren_of, value_of, binding_of, target_of, targets_of, lvalue_of, range_of, opens_range, size_of, ptype_of, names_of, opens_local, integers_of, regs_of, local_of};
+ghost use Rattle.vl_parse.specs.inner.Parts.{range_by, regs_by, local_by};
+ghost use Rattle.vl_parse.specs.Declarations.{expr_at, exprs_at, args_at, selects_at, paren_of, value_of, binding_of, target_of, targets_of, lvalue_of, range_of, opens_range, size_of, ptype_of, names_of, opens_local, integers_of, local_of};
 
 use crate::classes::is;
 use crate::input::Input;
-use crate::lists::{Begin, Parse, optional, separated};
+use crate::lists::{Begin, Parse, ended, optional, separated};
 use crate::part::{Part, added, single};
-use sqlite_items::Items;
+use sqlite_items::{Boxed, Items};
 use vl_expr::{Found, ParseError};
 use vl_tree::{Binding, Expr, Local, Lvalue, Ptype, Range, Select, Terminal};
 
@@ -58,18 +59,21 @@ fn selects(input: &Input<'_>, depth: u32, at: u32) -> Result<Part<Items<Select>>
     Ok(bare(found))
 }
 
+impl Parse for Expr {
+    ghost reading = { λ i n at. expr_at i.terminals n at };
+
+    fn parse(input: &Input<'_>, depth: u32, at: u32) -> Result<Part<Expr>, ParseError> {
+        expr(input, depth, at)
+    }
+}
+
 /// An expression in parentheses, behind a keyword at this place.
-pub fn paren(input: &Input<'_>, depth: u32, at: u32) -> Result<Part<Expr>, ParseError>
+pub fn paren(input: &Input<'_>, depth: u32, at: u32) -> Result<Part<Boxed<Expr>>, ParseError>
     requires { at < 2 ^ 32 - 2 }
     ensures { Gives result (paren_of input.now.terminals depth at) }
 {
     input.expect(at + 1, Terminal::OpenParen)?;
-    let inner = expr(input, depth, at + 2)?;
-    input.expect(inner.end, Terminal::CloseParen)?;
-    Ok(Part {
-        tree: inner.tree,
-        end: inner.end + 1,
-    })
+    ended(input, Terminal::CloseParen, depth, at + 2)
 }
 
 /// `"=" expr`
@@ -115,7 +119,7 @@ fn target(input: &Input<'_>, depth: u32, at: u32) -> Result<Part<Lvalue>, ParseE
 
 /// The left side of an assignment.
 #[cycle(lvalue)]
-pub fn lvalue(input: &Input<'_>, depth: u32, at: u32) -> Result<Part<Lvalue>, ParseError>
+fn lvalue(input: &Input<'_>, depth: u32, at: u32) -> Result<Part<Lvalue>, ParseError>
     ensures { Gives result (lvalue_of input.now.terminals depth at) }
 {
     if depth == 0 {
@@ -168,23 +172,36 @@ fn targets(input: &Input<'_>, depth: u32, at: u32) -> Result<Part<Lvalue>, Parse
     })
 }
 
+impl Parse for Lvalue {
+    ghost reading = { λ i n at. lvalue_of i.terminals n at };
+
+    fn parse(input: &Input<'_>, depth: u32, at: u32) -> Result<Part<Lvalue>, ParseError> {
+        lvalue(input, depth, at)
+    }
+}
+
+fn range(input: &Input<'_>, depth: u32, at: u32) -> Result<Part<Range>, ParseError>
+    ensures { Gives result (range_by input.now.terminals depth at) }
+{
+    input.expect(at, Terminal::OpenBracket)?;
+    let msb = ended(input, Terminal::Colon, depth, at + 1)?;
+    let lsb = ended(input, Terminal::CloseBracket, depth, msb.end)?;
+    Ok(Part {
+        tree: Range {
+            at,
+            msb: msb.tree,
+            lsb: lsb.tree,
+        },
+        end: lsb.end,
+    })
+}
+
 impl Parse for Range {
     ghost reading = { λ i n at. range_of i.terminals n at };
 
+    #[tactic(auto, using(crate::proofs::Bridges::range_gives))]
     fn parse(input: &Input<'_>, depth: u32, at: u32) -> Result<Part<Range>, ParseError> {
-        input.expect(at, Terminal::OpenBracket)?;
-        let msb = expr(input, depth, at + 1)?;
-        input.expect(msb.end, Terminal::Colon)?;
-        let lsb = expr(input, depth, msb.end + 1)?;
-        input.expect(lsb.end, Terminal::CloseBracket)?;
-        Ok(Part {
-            tree: Range {
-                at,
-                msb: msb.tree,
-                lsb: lsb.tree,
-            },
-            end: lsb.end + 1,
-        })
+        range(input, depth, at)
     }
 }
 
@@ -254,33 +271,38 @@ fn integers(input: &Input<'_>, depth: u32, at: u32) -> Result<Part<Local>, Parse
 }
 
 fn regs(input: &Input<'_>, depth: u32, at: u32) -> Result<Part<Local>, ParseError>
-    ensures { Gives result (regs_of input.now.terminals depth at) }
+    ensures { Gives result (regs_by input.now.terminals depth at) }
 {
     input.expect(at, Terminal::Reg)?;
-    let size = Size::parse(input, depth, at + 1)?;
-    let names = names(input, depth, size.end)?;
-    input.expect(names.end, Terminal::Semicolon)?;
-    let Size { signed, range } = size.tree;
+    let part: Part<(Size, Items<u32>)> = ended(input, Terminal::Semicolon, depth, at + 1)?;
+    let (Size { signed, range }, names) = part.tree;
     Ok(Part {
         tree: Local::Reg {
             at,
             signed,
             range,
-            names: names.tree,
+            names,
         },
-        end: names.end + 1,
+        end: part.end,
     })
+}
+
+fn local(input: &Input<'_>, depth: u32, at: u32) -> Result<Part<Local>, ParseError>
+    ensures { Gives result (local_by input.now.terminals depth at) }
+{
+    if input.is_at(at, Terminal::Integer) {
+        integers(input, depth, at)
+    } else {
+        regs(input, depth, at)
+    }
 }
 
 impl Parse for Local {
     ghost reading = { λ i n at. local_of i.terminals n at };
 
+    #[tactic(auto, using(crate::proofs::Bridges::local_gives))]
     fn parse(input: &Input<'_>, depth: u32, at: u32) -> Result<Part<Local>, ParseError> {
-        if input.is_at(at, Terminal::Integer) {
-            integers(input, depth, at)
-        } else {
-            regs(input, depth, at)
-        }
+        local(input, depth, at)
     }
 }
 

@@ -1,15 +1,16 @@
 //! The items of modules.
-ghost use Rattle.std.specs.Prelude.{◌≡◌, ◌<◌, ◌^◌, ◌-◌, ◌+◌};
+ghost use Rattle.std.specs.Prelude.{◌≡◌, ◌≢◌, ◌<◌, ◌^◌, ◌-◌, ◌+◌};
 ghost use Rattle.vl_expr.specs.Reading.{Gives};
 ghost use Rattle.vl_parse.specs.declared.classes.ItemStart.TheVariants as start;
 ghost use Rattle.vl_parse.specs.Parts.{maybe_of};
 ghost use Rattle.vl_parse.specs.Declarations.{expr_at};
-ghost use Rattle.vl_parse.specs.Modules.{declared_of, memory_of, variable_of, rname_of, opens_any, named_of, conns_of, override_of, opens_params, instance_of, params_item, wires_item, regs_item, integers_item, assigns_item, instances_item, item_by, item_of, opens_item};
+ghost use Rattle.vl_parse.specs.Modules.{declared_of, memory_of, variable_of, rname_of, opens_any, named_of, conns_of, override_of, opens_params, instance_of, item_by, item_of, opens_item};
+ghost use Rattle.vl_parse.specs.inner.Parts.{item_read};
 
 use crate::classes::{ItemStart, item_start_at};
 use crate::declarations::{Size, expr, exprs};
 use crate::input::Input;
-use crate::lists::{Begin, Parse, separated};
+use crate::lists::{Begin, Parse, ended, separated};
 use crate::modules::default;
 use crate::part::{Part, absent, present};
 use crate::statements::stmt;
@@ -205,97 +206,89 @@ fn params_item(
     word: ParamWord,
 ) -> Result<Part<Item>, ParseError>
     requires { at < 2 ^ 32 - 2 }
-    ensures { Gives result (params_item input.now.terminals depth at word) }
+    ensures { Gives result (item_read input.now.terminals input.now.names depth at (start.Params word)) }
 {
-    let ptype = Ptype::parse(input, depth, at + 1)?;
-    let values = separated(input, Terminal::Comma, depth, ptype.end)?;
-    input.expect(values.end, Terminal::Semicolon)?;
+    let part: Part<(Ptype, Items<Binding>)> = ended(input, Terminal::Semicolon, depth, at + 1)?;
+    let (ptype, values) = part.tree;
     Ok(Part {
         tree: Item::Params {
             at,
             word,
-            ptype: ptype.tree,
-            values: values.tree,
+            ptype,
+            values,
         },
-        end: values.end + 1,
+        end: part.end,
     })
 }
 
 fn wires_item(input: &Input<'_>, depth: u32, at: u32) -> Result<Part<Item>, ParseError>
     requires { at < 2 ^ 32 - 2 }
-    ensures { Gives result (wires_item input.now.terminals depth at) }
+    ensures { Gives result (item_read input.now.terminals input.now.names depth at start.Wires) }
 {
-    let size = Size::parse(input, depth, at + 1)?;
-    let names = separated(input, Terminal::Comma, depth, size.end)?;
-    input.expect(names.end, Terminal::Semicolon)?;
-    let Size { signed, range } = size.tree;
+    let part: Part<(Size, Items<Declared>)> = ended(input, Terminal::Semicolon, depth, at + 1)?;
+    let (Size { signed, range }, names) = part.tree;
     Ok(Part {
         tree: Item::Wires {
             at,
             signed,
             range,
-            names: names.tree,
+            names,
         },
-        end: names.end + 1,
+        end: part.end,
     })
 }
 
 fn regs_item(input: &Input<'_>, depth: u32, at: u32) -> Result<Part<Item>, ParseError>
     requires { at < 2 ^ 32 - 2 }
-    ensures { Gives result (regs_item input.now.terminals depth at) }
+    ensures { Gives result (item_read input.now.terminals input.now.names depth at start.Regs) }
 {
-    let size = Size::parse(input, depth, at + 1)?;
-    let names = separated(input, Terminal::Comma, depth, size.end)?;
-    input.expect(names.end, Terminal::Semicolon)?;
-    let Size { signed, range } = size.tree;
+    let part: Part<(Size, Items<Rname>)> = ended(input, Terminal::Semicolon, depth, at + 1)?;
+    let (Size { signed, range }, names) = part.tree;
     Ok(Part {
         tree: Item::Regs {
             at,
             signed,
             range,
-            names: names.tree,
+            names,
         },
-        end: names.end + 1,
+        end: part.end,
     })
 }
 
 fn integers_item(input: &Input<'_>, depth: u32, at: u32) -> Result<Part<Item>, ParseError>
     requires { at < 2 ^ 32 - 2 }
-    ensures { Gives result (integers_item input.now.terminals depth at) }
+    ensures { Gives result (item_read input.now.terminals input.now.names depth at start.Integers) }
 {
-    let names = separated(input, Terminal::Comma, depth, at + 1)?;
-    input.expect(names.end, Terminal::Semicolon)?;
+    let names: Part<Items<Declared>> = ended(input, Terminal::Semicolon, depth, at + 1)?;
     Ok(Part {
         tree: Item::Integers {
             at,
             names: names.tree,
         },
-        end: names.end + 1,
+        end: names.end,
     })
 }
 
 fn assigns_item(input: &Input<'_>, depth: u32, at: u32) -> Result<Part<Item>, ParseError>
     requires { at < 2 ^ 32 - 2 }
-    ensures { Gives result (assigns_item input.now.terminals depth at) }
+    ensures { Gives result (item_read input.now.terminals input.now.names depth at start.Assigns) }
 {
-    let values = separated(input, Terminal::Comma, depth, at + 1)?;
-    input.expect(values.end, Terminal::Semicolon)?;
+    let values: Part<Items<Binding>> = ended(input, Terminal::Semicolon, depth, at + 1)?;
     Ok(Part {
         tree: Item::Assigns {
             at,
             values: values.tree,
         },
-        end: values.end + 1,
+        end: values.end,
     })
 }
 
 fn instances_item(input: &Input<'_>, depth: u32, at: u32) -> Result<Part<Item>, ParseError>
     requires { at < 2 ^ 32 - 2 }
-    ensures { Gives result (instances_item input.now.terminals depth at) }
+    ensures { Gives result (item_read input.now.terminals input.now.names depth at start.Instances) }
 {
     let params = optional_overrides(input, depth, at + 1)?;
-    let instances = separated(input, Terminal::Comma, depth, params.end)?;
-    input.expect(instances.end, Terminal::Semicolon)?;
+    let instances: Part<Items<Instance>> = ended(input, Terminal::Semicolon, depth, params.end)?;
     Ok(Part {
         tree: Item::Instances {
             at,
@@ -303,7 +296,7 @@ fn instances_item(input: &Input<'_>, depth: u32, at: u32) -> Result<Part<Item>, 
             params: params.tree,
             instances: instances.tree,
         },
-        end: instances.end + 1,
+        end: instances.end,
     })
 }
 
@@ -374,24 +367,33 @@ fn import_item(input: &Input<'_>, depth: u32, at: u32) -> Result<Part<Item>, Par
     })
 }
 
+/// The item that begins in this way.
+fn item(input: &Input<'_>, depth: u32, at: u32, start: ItemStart) -> Result<Part<Item>, ParseError>
+    requires { start ≢ ItemStart.Nothing → at < 2 ^ 32 - 2 }
+    ensures { Gives result (item_read input.now.terminals input.now.names depth at start) }
+{
+    match start {
+        ItemStart::Params(word) => params_item(input, depth, at, word),
+        ItemStart::Wires => wires_item(input, depth, at),
+        ItemStart::Regs => regs_item(input, depth, at),
+        ItemStart::Integers => integers_item(input, depth, at),
+        ItemStart::Assigns => assigns_item(input, depth, at),
+        ItemStart::Always => always_item(input, depth, at),
+        ItemStart::Initial => initial_item(input, depth, at),
+        ItemStart::Task => task_item(input, depth, at),
+        ItemStart::Function => function_item(input, depth, at),
+        ItemStart::Import => import_item(input, depth, at),
+        ItemStart::Instances => instances_item(input, depth, at),
+        ItemStart::Nothing => Err(ParseError::NoTree { at }),
+    }
+}
+
 impl Parse for Item {
     ghost reading = { λ i n at. item_of i.terminals i.names n at };
 
+    #[tactic(auto, using(crate::proofs::Bridges::item_gives))]
     fn parse(input: &Input<'_>, depth: u32, at: u32) -> Result<Part<Item>, ParseError> {
-        match item_start_at(input, at) {
-            ItemStart::Params(word) => params_item(input, depth, at, word),
-            ItemStart::Wires => wires_item(input, depth, at),
-            ItemStart::Regs => regs_item(input, depth, at),
-            ItemStart::Integers => integers_item(input, depth, at),
-            ItemStart::Assigns => assigns_item(input, depth, at),
-            ItemStart::Always => always_item(input, depth, at),
-            ItemStart::Initial => initial_item(input, depth, at),
-            ItemStart::Task => task_item(input, depth, at),
-            ItemStart::Function => function_item(input, depth, at),
-            ItemStart::Import => import_item(input, depth, at),
-            ItemStart::Instances => instances_item(input, depth, at),
-            ItemStart::Nothing => Err(ParseError::NoTree { at }),
-        }
+        item(input, depth, at, item_start_at(input, at))
     }
 }
 

@@ -7,7 +7,6 @@ mod input;
 mod items;
 mod lists;
 mod modules;
-mod nodes;
 mod part;
 mod routines;
 mod simple;

@@ -6,10 +6,11 @@ ghost use Rattle.vl_expr.specs.Reading.{Gives, Reading};
 ghost use Rattle.vl_parse.specs.Input.{Input};
 ghost use Rattle.vl_parse.specs.declared.part.Part.{Part};
 ghost use Rattle.vl_parse.specs.Parts.{name_of, separated_of, separated_from, listed_of, many_of, maybe_of};
+ghost use Rattle.vl_parse.specs.inner.Steps.{pair_of, ended_of};
 
 use crate::input::Input;
-use crate::part::{Part, absent, added, none, present, single};
-use sqlite_items::Items;
+use crate::part::{Part, absent, added, boxed, none, present, single};
+use sqlite_items::{Boxed, Items};
 use vl_expr::ParseError;
 use vl_tree::Terminal;
 
@@ -41,6 +42,59 @@ impl Parse for u32 {
             end: at + 1,
         })
     }
+}
+
+impl<T: Parse> Parse for Boxed<T> {
+    ghost reading = { λ i n at. T.Parse.reading i n at };
+
+    fn parse(input: &Input<'_>, depth: u32, at: u32) -> Result<Part<Boxed<T>>, ParseError> {
+        let part = T::parse(input, depth, at)?;
+        let tree = boxed(input.alloc(), part.tree)?;
+        Ok(Part {
+            tree,
+            end: part.end,
+        })
+    }
+}
+
+/// One part and another behind it.
+impl<T: Parse, U: Parse> Parse for (T, U) {
+    ghost reading = { λ i n at. pair_of (T.Parse.reading i n) (U.Parse.reading i n) at };
+
+    fn parse(input: &Input<'_>, depth: u32, at: u32) -> Result<Part<(T, U)>, ParseError> {
+        let first = T::parse(input, depth, at)?;
+        let second = U::parse(input, depth, first.end)?;
+        Ok(Part {
+            tree: (first.tree, second.tree),
+            end: second.end,
+        })
+    }
+}
+
+/// One or more parts with commas between them.
+impl<T: Parse> Parse for Items<T> {
+    ghost reading = { λ i n at. separated_of i.terminals lex.Comma (T.Parse.reading i n) at };
+
+    fn parse(input: &Input<'_>, depth: u32, at: u32) -> Result<Part<Items<T>>, ParseError> {
+        separated(input, Terminal::Comma, depth, at)
+    }
+}
+
+/// A part and a token behind it.
+pub fn ended<T: Parse>(
+    input: &Input<'_>,
+    terminal: Terminal,
+    depth: u32,
+    at: u32,
+) -> Result<Part<T>, ParseError>
+    ensures { Gives result (ended_of input.now.terminals terminal (T.reading input.now depth) at) }
+{
+    let part = T::parse(input, depth, at)?;
+    input.expect(part.end, terminal)?;
+    Ok(Part {
+        tree: part.tree,
+        end: part.end + 1,
+    })
 }
 
 /// The other parts of a list, each behind a separator.

@@ -5,6 +5,7 @@ ghost use Rattle.vl_tree.specs.Modules.{is_output_reg, values_fit};
 ghost use Rattle.vl_expr.specs.Reading.{Gives};
 ghost use Rattle.vl_parse.specs.Parts.{maybe_of};
 ghost use Rattle.vl_parse.specs.Routines.{opens_dir};
+ghost use Rattle.vl_parse.specs.inner.Parts.{pdecl_by, port_by, port_list, header_by, module_by};
 ghost use Rattle.vl_parse.specs.Modules.{default_of, lead_of, opens_lead, pdecl_of, net_of, reg_of, dir_by, dir_of, port_of, params_of, opens_params, misfit, ports_of, opens_ports, items_of, module_of, opens_module};
 
 use crate::classes::direction_at;
@@ -15,7 +16,9 @@ use crate::part::{Part, absent, present};
 use crate::routines::opens_dir;
 use sqlite_items::Items;
 use vl_expr::ParseError;
-use vl_tree::{Dir, Direction, Expr, Item, Module, Pdecl, Port, Ptype, Terminal};
+use vl_tree::{
+    Binding, Declared, Dir, Direction, Expr, Item, Module, Pdecl, Port, Ptype, Terminal,
+};
 
 /// The value of what is declared, if there is one.
 pub fn default(input: &Input<'_>, depth: u32, at: u32) -> Result<Part<Option<Expr>>, ParseError>
@@ -42,22 +45,30 @@ fn lead(input: &Input<'_>, depth: u32, at: u32) -> Result<Part<Option<Ptype>>, P
     }
 }
 
+fn pdecl(input: &Input<'_>, depth: u32, at: u32) -> Result<Part<Pdecl>, ParseError>
+    ensures { Gives result (pdecl_by input.now.terminals depth at) }
+{
+    let ptype = lead(input, depth, at)?;
+    let binding = Binding::parse(input, depth, ptype.end)?;
+    let Binding { name, value, .. } = binding.tree;
+    let ptype = ptype.tree;
+    Ok(Part {
+        tree: Pdecl {
+            at,
+            ptype,
+            name,
+            value,
+        },
+        end: binding.end,
+    })
+}
+
 impl Parse for Pdecl {
     ghost reading = { λ i n at. pdecl_of i.terminals n at };
 
+    #[tactic(auto, using(crate::proofs::Bridges::pdecl_gives))]
     fn parse(input: &Input<'_>, depth: u32, at: u32) -> Result<Part<Pdecl>, ParseError> {
-        let ptype = lead(input, depth, at)?;
-        input.name(ptype.end)?;
-        let value = value(input, depth, ptype.end + 1)?;
-        Ok(Part {
-            tree: Pdecl {
-                at,
-                ptype: ptype.tree,
-                name: ptype.end,
-                value: value.tree,
-            },
-            end: value.end,
-        })
+        pdecl(input, depth, at)
     }
 }
 
@@ -135,22 +146,30 @@ impl Begin for Dir {
     }
 }
 
+fn port(input: &Input<'_>, depth: u32, at: u32) -> Result<Part<Port>, ParseError>
+    ensures { Gives result (port_by input.now.terminals depth at) }
+{
+    let dir = optional(input, depth, at)?;
+    let declared = Declared::parse(input, depth, dir.end)?;
+    let Declared { name, value, .. } = declared.tree;
+    let dir = dir.tree;
+    Ok(Part {
+        tree: Port {
+            at,
+            dir,
+            name,
+            value,
+        },
+        end: declared.end,
+    })
+}
+
 impl Parse for Port {
     ghost reading = { λ i n at. port_of i.terminals n at };
 
+    #[tactic(auto, using(crate::proofs::Bridges::port_gives))]
     fn parse(input: &Input<'_>, depth: u32, at: u32) -> Result<Part<Port>, ParseError> {
-        let dir = optional(input, depth, at)?;
-        input.name(dir.end)?;
-        let value = default(input, depth, dir.end + 1)?;
-        Ok(Part {
-            tree: Port {
-                at,
-                dir: dir.tree,
-                name: dir.end,
-                value: value.tree,
-            },
-            end: value.end,
-        })
+        port(input, depth, at)
     }
 }
 
@@ -280,26 +299,63 @@ fn items(input: &Input<'_>, depth: u32, at: u32) -> Result<Part<Items<Item>>, Pa
     })
 }
 
+/// The ports of a module, if it has any, and a semicolon.
+fn port_list(
+    input: &Input<'_>,
+    depth: u32,
+    at: u32,
+) -> Result<Part<Option<Items<Port>>>, ParseError>
+    ensures { Gives result (port_list input.now.terminals depth at) }
+{
+    let ports = optional_ports(input, depth, at)?;
+    input.expect(ports.end, Terminal::Semicolon)?;
+    Ok(Part {
+        tree: ports.tree,
+        end: ports.end + 1,
+    })
+}
+
+/// The parameters and the ports of a module.
+type ParamsAndPorts = (Option<Items<Pdecl>>, Option<Items<Port>>);
+
+/// What stands between the name of a module and its items.
+fn header(input: &Input<'_>, depth: u32, at: u32) -> Result<Part<ParamsAndPorts>, ParseError>
+    ensures { Gives result (header_by input.now.terminals depth at) }
+{
+    let params = optional_params(input, depth, at)?;
+    let ports = port_list(input, depth, params.end)?;
+    Ok(Part {
+        tree: (params.tree, ports.tree),
+        end: ports.end,
+    })
+}
+
+fn module(input: &Input<'_>, depth: u32, at: u32) -> Result<Part<Module>, ParseError>
+    ensures { Gives result (module_by input.now.terminals input.now.names depth at) }
+{
+    input.expect(at, Terminal::Module)?;
+    input.name(at + 1)?;
+    let header = header(input, depth, at + 2)?;
+    let items = items(input, depth, header.end)?;
+    let (params, ports) = header.tree;
+    Ok(Part {
+        tree: Module {
+            at,
+            name: at + 1,
+            params,
+            ports,
+            items: items.tree,
+        },
+        end: items.end,
+    })
+}
+
 impl Parse for Module {
     ghost reading = { λ i n at. module_of i.terminals i.names n at };
 
+    #[tactic(auto, using(crate::proofs::Bridges::module_gives))]
     fn parse(input: &Input<'_>, depth: u32, at: u32) -> Result<Part<Module>, ParseError> {
-        input.expect(at, Terminal::Module)?;
-        input.name(at + 1)?;
-        let params = optional_params(input, depth, at + 2)?;
-        let ports = optional_ports(input, depth, params.end)?;
-        input.expect(ports.end, Terminal::Semicolon)?;
-        let items = items(input, depth, ports.end + 1)?;
-        Ok(Part {
-            tree: Module {
-                at,
-                name: at + 1,
-                params: params.tree,
-                ports: ports.tree,
-                items: items.tree,
-            },
-            end: items.end,
-        })
+        module(input, depth, at)
     }
 }
 

@@ -4,19 +4,19 @@ ghost use Rattle.std.specs.List.{list_all, list_any};
 ghost use Rattle.vl_tree.specs.Lists.{first_led};
 ghost use Rattle.vl_tree.specs.Routines.{is_input, is_input_formal, is_formals, is_input_arg, is_function_args};
 ghost use Rattle.vl_expr.specs.Reading.{Gives};
-ghost use Rattle.vl_parse.specs.Routines.{direction_of, opens_dir, fdir_by, fdir_of, formal_of, formals_of, arg_of, opens_arg, listed_args, declared_args, args_of, task_of, inputs_of, function_of, itype_of, rtype_of, bits_of, number_of, iarg_of, iargs_of, import_head, import_of};
+ghost use Rattle.vl_parse.specs.inner.Parts.{formals_by, arg_by, formal_list, locals_by, listed_by, args_by, task_by, body_by, function_by};
+ghost use Rattle.vl_parse.specs.Routines.{direction_of, opens_dir, fdir_by, fdir_of, formal_of, arg_of, opens_arg, declared_args, args_of, task_of, inputs_of, function_of, itype_of, rtype_of, bits_of, number_of, iarg_of, iargs_of, import_head, import_of};
 
 use crate::classes::{direction, direction_at, int_word_at, sign_at};
-use crate::declarations::{Size, names};
+use crate::declarations::Size;
 use crate::input::Input;
-use crate::lists::{Begin, Parse, listed, many, optional};
+use crate::lists::{Begin, Parse, ended, listed, many, optional};
 use crate::part::Part;
-use crate::statements::stmt;
 use sqlite_items::Items;
 use vl_expr::ParseError;
 use vl_tree::{
-    Arg, Args, Direction, Fdir, Formal, Function, Iarg, Import, Itype, Local, Ptype, Rtype, Task,
-    Terminal,
+    Arg, Args, Direction, Fdir, Formal, Function, Iarg, Import, Itype, Local, Ptype, Rtype, Stmt,
+    Task, Terminal,
 };
 
 /// The leading words of a formal, behind `input` or `output`.
@@ -95,36 +95,38 @@ impl Parse for Formal {
 
 /// Formals of one kind.
 fn formals(input: &Input<'_>, depth: u32, at: u32) -> Result<Part<Arg>, ParseError>
-    ensures { Gives result (formals_of input.now.terminals depth at) }
+    ensures { Gives result (formals_by input.now.terminals depth at) }
 {
-    let fdir = Fdir::parse(input, depth, at)?;
-    let names = names(input, depth, fdir.end)?;
-    input.expect(names.end, Terminal::Semicolon)?;
+    let part: Part<(Fdir, Items<u32>)> = ended(input, Terminal::Semicolon, depth, at)?;
+    let (fdir, names) = part.tree;
     Ok(Part {
-        tree: Arg::Formals {
+        tree: Arg::Formals { at, fdir, names },
+        end: part.end,
+    })
+}
+
+fn arg(input: &Input<'_>, depth: u32, at: u32) -> Result<Part<Arg>, ParseError>
+    ensures { Gives result (arg_by input.now.terminals depth at) }
+{
+    if opens_dir(input.get(at)) {
+        return formals(input, depth, at);
+    }
+    let local = Local::parse(input, depth, at)?;
+    Ok(Part {
+        tree: Arg::Local {
             at,
-            fdir: fdir.tree,
-            names: names.tree,
+            local: local.tree,
         },
-        end: names.end + 1,
+        end: local.end,
     })
 }
 
 impl Parse for Arg {
     ghost reading = { λ i n at. arg_of i.terminals n at };
 
+    #[tactic(auto, using(crate::proofs::Bridges::arg_gives))]
     fn parse(input: &Input<'_>, depth: u32, at: u32) -> Result<Part<Arg>, ParseError> {
-        if opens_dir(input.get(at)) {
-            return formals(input, depth, at);
-        }
-        let local = Local::parse(input, depth, at)?;
-        Ok(Part {
-            tree: Arg::Local {
-                at,
-                local: local.tree,
-            },
-            end: local.end,
-        })
+        arg(input, depth, at)
     }
 }
 
@@ -146,18 +148,36 @@ fn led(formals: &[Formal]) -> bool
     }
 }
 
+/// The formals before a closing parenthesis, and this.
+fn formal_list(input: &Input<'_>, depth: u32, at: u32) -> Result<Part<Items<Formal>>, ParseError>
+    ensures { Gives result (formal_list input.now.terminals depth at) }
+{
+    let formals = listed(input, depth, at)?;
+    input.expect(formals.end, Terminal::CloseParen)?;
+    if !led(formals.tree.as_slice()) {
+        return Err(ParseError::NoTree { at });
+    }
+    Ok(Part {
+        tree: formals.tree,
+        end: formals.end + 1,
+    })
+}
+
+/// A semicolon and local variables.
+fn locals(input: &Input<'_>, depth: u32, at: u32) -> Result<Part<Items<Local>>, ParseError>
+    ensures { Gives result (locals_by input.now.terminals depth at) }
+{
+    input.expect(at, Terminal::Semicolon)?;
+    many(input, depth, at + 1)
+}
+
 /// Formals in parentheses, and local variables.
 fn listed_args(input: &Input<'_>, depth: u32, at: u32) -> Result<Part<Args>, ParseError>
     requires { at < 2 ^ 32 - 2 }
-    ensures { Gives result (listed_args input.now.terminals depth at) }
+    ensures { Gives result (listed_by input.now.terminals depth at) }
 {
-    let formals = listed(input, depth, at + 1)?;
-    input.expect(formals.end, Terminal::CloseParen)?;
-    if !led(formals.tree.as_slice()) {
-        return Err(ParseError::NoTree { at: at + 1 });
-    }
-    input.expect(formals.end + 1, Terminal::Semicolon)?;
-    let locals = many(input, depth, formals.end + 2)?;
+    let formals = formal_list(input, depth, at + 1)?;
+    let locals = locals(input, depth, formals.end)?;
     Ok(Part {
         tree: Args::Listed {
             at,
@@ -183,36 +203,49 @@ fn declared_args(input: &Input<'_>, depth: u32, at: u32) -> Result<Part<Args>, P
     })
 }
 
+fn args(input: &Input<'_>, depth: u32, at: u32) -> Result<Part<Args>, ParseError>
+    ensures { Gives result (args_by input.now.terminals depth at) }
+{
+    if input.is_at(at, Terminal::OpenParen) {
+        listed_args(input, depth, at)
+    } else {
+        declared_args(input, depth, at)
+    }
+}
+
 impl Parse for Args {
     ghost reading = { λ i n at. args_of i.terminals n at };
 
+    #[tactic(auto, using(crate::proofs::Bridges::args_gives))]
     fn parse(input: &Input<'_>, depth: u32, at: u32) -> Result<Part<Args>, ParseError> {
-        if input.is_at(at, Terminal::OpenParen) {
-            listed_args(input, depth, at)
-        } else {
-            declared_args(input, depth, at)
-        }
+        args(input, depth, at)
     }
+}
+
+fn task(input: &Input<'_>, depth: u32, at: u32) -> Result<Part<Task>, ParseError>
+    ensures { Gives result (task_by input.now.terminals input.now.names depth at) }
+{
+    input.expect(at, Terminal::Task)?;
+    input.name(at + 1)?;
+    let part: Part<(Args, Stmt)> = ended(input, Terminal::Endtask, depth, at + 2)?;
+    let (args, body) = part.tree;
+    Ok(Part {
+        tree: Task {
+            at,
+            name: at + 1,
+            args,
+            body,
+        },
+        end: part.end,
+    })
 }
 
 impl Parse for Task {
     ghost reading = { λ i n at. task_of i.terminals i.names n at };
 
+    #[tactic(auto, using(crate::proofs::Bridges::task_gives))]
     fn parse(input: &Input<'_>, depth: u32, at: u32) -> Result<Part<Task>, ParseError> {
-        input.expect(at, Terminal::Task)?;
-        input.name(at + 1)?;
-        let args = Args::parse(input, depth, at + 2)?;
-        let body = stmt(input, depth, args.end)?;
-        input.expect(body.end, Terminal::Endtask)?;
-        Ok(Part {
-            tree: Task {
-                at,
-                name: at + 1,
-                args: args.tree,
-                body: body.tree,
-            },
-            end: body.end + 1,
-        })
+        task(input, depth, at)
     }
 }
 
@@ -293,25 +326,43 @@ fn inputs(input: &Input<'_>, depth: u32, at: u32) -> Result<Part<Args>, ParseErr
     }
 }
 
+/// The name, the arguments and the statement of a function.
+fn body(input: &Input<'_>, depth: u32, at: u32) -> Result<Part<(Args, Stmt)>, ParseError>
+    ensures { Gives result (body_by input.now.terminals input.now.names depth at) }
+{
+    let args = inputs(input, depth, at)?;
+    let body = ended(input, Terminal::Endfunction, depth, args.end)?;
+    Ok(Part {
+        tree: (args.tree, body.tree),
+        end: body.end,
+    })
+}
+
+fn function(input: &Input<'_>, depth: u32, at: u32) -> Result<Part<Function>, ParseError>
+    ensures { Gives result (function_by input.now.terminals input.now.names depth at) }
+{
+    input.expect(at, Terminal::Function)?;
+    let ptype = Ptype::parse(input, depth, at + 1)?;
+    let part = body(input, depth, ptype.end)?;
+    let (args, body) = part.tree;
+    Ok(Part {
+        tree: Function {
+            at,
+            ptype: ptype.tree,
+            name: ptype.end,
+            args,
+            body,
+        },
+        end: part.end,
+    })
+}
+
 impl Parse for Function {
     ghost reading = { λ i n at. function_of i.terminals i.names n at };
 
+    #[tactic(auto, using(crate::proofs::Bridges::function_gives))]
     fn parse(input: &Input<'_>, depth: u32, at: u32) -> Result<Part<Function>, ParseError> {
-        input.expect(at, Terminal::Function)?;
-        let ptype = Ptype::parse(input, depth, at + 1)?;
-        let args = inputs(input, depth, ptype.end)?;
-        let body = stmt(input, depth, args.end)?;
-        input.expect(body.end, Terminal::Endfunction)?;
-        Ok(Part {
-            tree: Function {
-                at,
-                ptype: ptype.tree,
-                name: ptype.end,
-                args: args.tree,
-                body: body.tree,
-            },
-            end: body.end + 1,
-        })
+        function(input, depth, at)
     }
 }
 

@@ -1,71 +1,106 @@
-//! Statements in which no statement stands, and what stands before one in the others.
-ghost use Rattle.std.specs.Prelude.{◌≡◌, ◌<◌, ◌^◌, ◌-◌, ◌+◌, OnOk, IfOk};
+//! What statements begin with: all up to the first statement inside, or the whole of one in which none stands.
+ghost use Rattle.std.specs.Prelude.{◌≡◌, ◌<◌, ◌^◌, ◌-◌, ◌+◌, OnOk};
 ghost use Rattle.vl_expr.specs.Reading.{Gives};
 ghost use Rattle.vl_parse.specs.Parts.{maybe_of};
-ghost use Rattle.vl_parse.specs.Declarations.{args_at};
-ghost use Rattle.vl_parse.specs.Statements.{blocking_of, nonblocking_of, assign_of, opens_args, enable_of, named_of, disable_of, header_of, header_end, scope_of, opens_scope, clock_of};
+ghost use Rattle.vl_parse.specs.declared.classes.Opening.TheVariants as opening;
+ghost use Rattle.vl_parse.specs.declared.simple.Head.TheVariants as head;
+ghost use Rattle.vl_parse.specs.declared.simple.Before.TheVariants as before;
+ghost use Rattle.vl_parse.specs.Declarations.{args_at, paren_of};
+ghost use Rattle.vl_parse.specs.Statements.{opens_args, enable_of, disable_of, scope_of, opens_scope, clock_of};
+ghost use Rattle.vl_parse.specs.inner.Steps.{made_of};
+ghost use Rattle.vl_parse.specs.inner.Heads.{right_of, assigned, assign_head, named_head, clauses_of, next_of, for_head, head_by, head_of};
 
-use crate::classes::edge_at;
-use crate::declarations::{args, expr, lvalue};
+use crate::classes::{Opening, edge_at, opening_at};
+use crate::declarations::{args, paren};
 use crate::input::Input;
-use crate::lists::{Parse, many, separated};
-use crate::part::{Part, absent, boxed, present};
+use crate::lists::{Parse, ended, many, separated};
+use crate::part::{Part, absent, present};
 use sqlite_items::{Boxed, Items};
 use vl_expr::ParseError;
 use vl_tree::{Edge, Expr, Lvalue, Scope, Stmt, Terminal};
 
-/// An assignment behind its left side and `=`.
-fn blocking(
-    input: &Input<'_>,
-    depth: u32,
-    at: u32,
-    target: Part<Lvalue>,
-) -> Result<Part<Stmt>, ParseError>
-    requires { target.end < 2 ^ 32 - 2 }
-    ensures { Gives result (blocking_of input.now.terminals depth at target) }
+/// What stands before the statements inside a statement, or a statement in which none stands.
+#[derive(Drop)]
+pub enum Head {
+    Whole(Stmt),
+    If(Boxed<Expr>),
+    Case(Boxed<Expr>),
+    Block(Option<Boxed<Scope>>),
+    Before(Before),
+}
+
+/// What stands before the one statement inside.
+#[derive(Drop)]
+pub enum Before {
+    For(Header),
+    While(Boxed<Expr>),
+    Repeat(Boxed<Expr>),
+    Forever,
+    /// The edge, and the place of the clock's name.
+    Wait { edge: Edge, clock: u32 },
+}
+
+/// What stands between `for` and its statement, behind the first name.
+#[derive(Drop)]
+pub struct Header {
+    pub first: Boxed<Expr>,
+    pub test: Boxed<Expr>,
+    pub again: u32,
+    pub next: Boxed<Expr>,
+}
+
+/// What stands before the statement of a case item.
+#[derive(Drop)]
+pub enum Label {
+    Default { colon: bool },
+    Exprs(Items<Expr>),
+}
+
+/// What stands behind the left side of an assignment.
+#[derive(Drop)]
+pub enum Right {
+    Blocking(Boxed<Expr>),
+    Nonblocking(Boxed<Expr>),
+}
+
+/// `"=" expr ";"` or `"<=" expr ";"`
+fn right_side(input: &Input<'_>, depth: u32, at: u32) -> Result<Part<Right>, ParseError>
+    ensures { Gives result (right_of input.now.terminals depth at) }
 {
-    let value = expr(input, depth, target.end + 1)?;
-    input.expect(value.end, Terminal::Semicolon)?;
-    let end = value.end + 1;
-    let target = boxed(input.alloc(), target.tree)?;
-    let value = boxed(input.alloc(), value.tree)?;
+    if input.is_at(at, Terminal::Equals) {
+        let value = ended(input, Terminal::Semicolon, depth, at + 1)?;
+        return Ok(Part {
+            tree: Right::Blocking(value.tree),
+            end: value.end,
+        });
+    }
+    input.expect(at, Terminal::LessEqual)?;
+    let value = ended(input, Terminal::Semicolon, depth, at + 1)?;
     Ok(Part {
-        tree: Stmt::Blocking { at, target, value },
-        end,
+        tree: Right::Nonblocking(value.tree),
+        end: value.end,
     })
 }
 
-/// An assignment with `<=`, behind its left side.
-fn nonblocking(
-    input: &Input<'_>,
-    depth: u32,
-    at: u32,
-    target: Part<Lvalue>,
-) -> Result<Part<Stmt>, ParseError>
-    ensures { Gives result (nonblocking_of input.now.terminals depth at target) }
+fn assigned(at: u32, target: Boxed<Lvalue>, right: Right) -> Stmt
+    ensures { result ≡ assigned at target right }
 {
-    input.expect(target.end, Terminal::LessEqual)?;
-    let value = expr(input, depth, target.end + 1)?;
-    input.expect(value.end, Terminal::Semicolon)?;
-    let end = value.end + 1;
-    let target = boxed(input.alloc(), target.tree)?;
-    let value = boxed(input.alloc(), value.tree)?;
-    Ok(Part {
-        tree: Stmt::Nonblocking { at, target, value },
-        end,
-    })
+    match right {
+        Right::Blocking(value) => Stmt::Blocking { at, target, value },
+        Right::Nonblocking(value) => Stmt::Nonblocking { at, target, value },
+    }
 }
 
 /// An assignment.
-pub fn assign(input: &Input<'_>, depth: u32, at: u32) -> Result<Part<Stmt>, ParseError>
-    ensures { Gives result (assign_of input.now.terminals depth at) }
+fn assign(input: &Input<'_>, depth: u32, at: u32) -> Result<Part<Head>, ParseError>
+    ensures { Gives result (assign_head input.now.terminals depth at) }
 {
-    let target = lvalue(input, depth, at)?;
-    if input.is_at(target.end, Terminal::Equals) {
-        blocking(input, depth, at, target)
-    } else {
-        nonblocking(input, depth, at, target)
-    }
+    let target = Boxed::<Lvalue>::parse(input, depth, at)?;
+    let right = right_side(input, depth, target.end)?;
+    Ok(Part {
+        tree: Head::Whole(assigned(at, target.tree, right.tree)),
+        end: right.end,
+    })
 }
 
 /// The arguments of an enable, if there are any.
@@ -85,26 +120,26 @@ fn enable_args(
 }
 
 /// An enable of a task.
-fn enable(input: &Input<'_>, depth: u32, at: u32) -> Result<Part<Stmt>, ParseError>
+fn enable(input: &Input<'_>, depth: u32, at: u32) -> Result<Part<Head>, ParseError>
     requires { at < 2 ^ 32 - 2 }
-    ensures { Gives result (enable_of input.now.terminals depth at) }
+    ensures { Gives result (made_of head.Whole (enable_of input.now.terminals depth at)) }
 {
     let args = enable_args(input, depth, at + 1)?;
     input.expect(args.end, Terminal::Semicolon)?;
     Ok(Part {
-        tree: Stmt::Enable {
+        tree: Head::Whole(Stmt::Enable {
             at,
             name: at,
             args: args.tree,
-        },
+        }),
         end: args.end + 1,
     })
 }
 
 /// A statement that begins with a name.
-pub fn named(input: &Input<'_>, depth: u32, at: u32) -> Result<Part<Stmt>, ParseError>
+fn named(input: &Input<'_>, depth: u32, at: u32) -> Result<Part<Head>, ParseError>
     requires { at < 2 ^ 32 - 2 }
-    ensures { Gives result (named_of input.now.terminals depth at) }
+    ensures { Gives result (named_head input.now.terminals depth at) }
 {
     let enables = input.is_at(at + 1, Terminal::OpenParen)
         || input.is_at(at + 1, Terminal::Semicolon);
@@ -116,73 +151,70 @@ pub fn named(input: &Input<'_>, depth: u32, at: u32) -> Result<Part<Stmt>, Parse
 }
 
 /// The end of a block or task.
-pub fn disable(input: &Input<'_>, depth: u32, at: u32) -> Result<Part<Stmt>, ParseError>
+fn disable(input: &Input<'_>, depth: u32, at: u32) -> Result<Part<Head>, ParseError>
     requires { at < 2 ^ 32 - 2 }
-    ensures { Gives result (disable_of input.now.terminals at) }
+    ensures { Gives result (made_of head.Whole (disable_of input.now.terminals at)) }
 {
     let path = separated(input, Terminal::Dot, depth, at + 1)?;
     input.expect(path.end, Terminal::Semicolon)?;
     Ok(Part {
-        tree: Stmt::Disable {
+        tree: Head::Whole(Stmt::Disable {
             at,
             names: path.tree,
-        },
+        }),
         end: path.end + 1,
     })
 }
 
-/// What stands between `for` and its statement, behind the first name.
-#[derive(Drop)]
-pub struct Header {
-    pub first: Expr,
-    pub test: Expr,
-    pub again: u32,
-    pub next: Expr,
-}
-
-/// The second assignment of a header, whose name is spelled as the one at `at`.
-fn header_end(
+/// `expr ";" expr ";"`
+fn clauses(
     input: &Input<'_>,
     depth: u32,
     at: u32,
-    first: Expr,
-    test: Part<Expr>,
-) -> Result<Part<Header>, ParseError>
-    requires { test.end < 2 ^ 32 - 2 }
-    ensures { Gives result (header_end input.now.terminals input.now.names depth at first test) }
+) -> Result<Part<(Boxed<Expr>, Boxed<Expr>)>, ParseError>
+    ensures { Gives result (clauses_of input.now.terminals depth at) }
 {
-    let again = test.end + 1;
+    let first = ended(input, Terminal::Semicolon, depth, at)?;
+    let second = ended(input, Terminal::Semicolon, depth, first.end)?;
+    Ok(Part {
+        tree: (first.tree, second.tree),
+        end: second.end,
+    })
+}
+
+/// The second assignment of a header; its name is spelled as the one at `at`.
+fn next(input: &Input<'_>, depth: u32, at: u32, again: u32) -> Result<Part<Boxed<Expr>>, ParseError>
+    ensures { Gives result (next_of input.now.terminals input.now.names depth at again) }
+{
     input.name(again)?;
     if !input.same_name(at, again) {
         return Err(ParseError::NoTree { at: again });
     }
-    input.expect(test.end + 2, Terminal::Equals)?;
-    let next = expr(input, depth, test.end + 3)?;
-    input.expect(next.end, Terminal::CloseParen)?;
-    Ok(Part {
-        tree: Header {
-            first,
-            test: test.tree,
-            again,
-            next: next.tree,
-        },
-        end: next.end + 1,
-    })
+    input.expect(again + 1, Terminal::Equals)?;
+    ended(input, Terminal::CloseParen, depth, again + 2)
 }
 
-/// The header of the `for` at a place; both names are the same.
-pub fn for_header(input: &Input<'_>, depth: u32, at: u32) -> Result<Part<Header>, ParseError>
+/// The `for` at a place, up to its statement; both names are the same.
+fn for_head(input: &Input<'_>, depth: u32, at: u32) -> Result<Part<Head>, ParseError>
     requires { at < 2 ^ 32 - 2 }
-    ensures { Gives result (header_of input.now.terminals input.now.names depth at) }
+    ensures { Gives result (for_head input.now.terminals input.now.names depth at) }
 {
     input.expect(at + 1, Terminal::OpenParen)?;
     input.name(at + 2)?;
     input.expect(at + 3, Terminal::Equals)?;
-    let first = expr(input, depth, at + 4)?;
-    input.expect(first.end, Terminal::Semicolon)?;
-    let test = expr(input, depth, first.end + 1)?;
-    input.expect(test.end, Terminal::Semicolon)?;
-    header_end(input, depth, at + 2, first.tree, test)
+    let clauses = clauses(input, depth, at + 4)?;
+    let next = next(input, depth, at + 2, clauses.end)?;
+    let (first, test) = clauses.tree;
+    let header = Header {
+        first,
+        test,
+        again: clauses.end,
+        next: next.tree,
+    };
+    Ok(Part {
+        tree: Head::Before(Before::For(header)),
+        end: next.end,
+    })
 }
 
 impl Parse for Scope {
@@ -203,27 +235,27 @@ impl Parse for Scope {
     }
 }
 
-/// The name and the variables of a block, if it has a name.
-pub fn scope(
-    input: &Input<'_>,
-    depth: u32,
-    at: u32,
-) -> Result<Part<Option<Boxed<Scope>>>, ParseError>
-    ensures { Gives result (maybe_of input.now.terminals opens_scope (scope_of input.now.terminals depth) at) }
+/// What stands before the statements of a block: its name and variables, if it has a name.
+fn block(input: &Input<'_>, depth: u32, at: u32) -> Result<Part<Head>, ParseError>
+    requires { at < 2 ^ 32 - 2 }
+    ensures { Gives result
+        (made_of head.Block (maybe_of input.now.terminals opens_scope (scope_of input.now.terminals depth) (at + 1))) }
 {
-    if !input.is_at(at, Terminal::Colon) {
-        return Ok(absent(at));
+    if !input.is_at(at + 1, Terminal::Colon) {
+        return Ok(Part {
+            tree: Head::Block(None),
+            end: at + 1,
+        });
     }
-    let scope = Scope::parse(input, depth, at)?;
-    let tree = boxed(input.alloc(), scope.tree)?;
+    let scope = Boxed::<Scope>::parse(input, depth, at + 1)?;
     Ok(Part {
-        tree: Some(tree),
+        tree: Head::Block(Some(scope.tree)),
         end: scope.end,
     })
 }
 
 /// The edge of a clock, in parentheses with the clock's name, behind the `@` at a place; these are four tokens.
-pub fn clock(input: &Input<'_>, at: u32) -> Result<Edge, ParseError>
+fn clock(input: &Input<'_>, at: u32) -> Result<Edge, ParseError>
     requires { at < 2 ^ 32 - 2 }
     ensures exact { Gives result (clock_of input.now.terminals at) }
     ensures within { OnOk result (at + 4 < 2 ^ 32 - 2) }
@@ -235,4 +267,90 @@ pub fn clock(input: &Input<'_>, at: u32) -> Result<Edge, ParseError>
     input.name(at + 3)?;
     input.expect(at + 4, Terminal::CloseParen)?;
     Ok(edge)
+}
+
+fn if_head(input: &Input<'_>, depth: u32, at: u32) -> Result<Part<Head>, ParseError>
+    requires { at < 2 ^ 32 - 2 }
+    ensures { Gives result (made_of head.If (paren_of input.now.terminals depth at)) }
+{
+    let test = paren(input, depth, at)?;
+    Ok(Part {
+        tree: Head::If(test.tree),
+        end: test.end,
+    })
+}
+
+fn case_head(input: &Input<'_>, depth: u32, at: u32) -> Result<Part<Head>, ParseError>
+    requires { at < 2 ^ 32 - 2 }
+    ensures { Gives result (made_of head.Case (paren_of input.now.terminals depth at)) }
+{
+    let on = paren(input, depth, at)?;
+    Ok(Part {
+        tree: Head::Case(on.tree),
+        end: on.end,
+    })
+}
+
+fn while_head(input: &Input<'_>, depth: u32, at: u32) -> Result<Part<Head>, ParseError>
+    requires { at < 2 ^ 32 - 2 }
+    ensures { Gives result (made_of (λ e. head.Before (before.While e)) (paren_of input.now.terminals depth at)) }
+{
+    let test = paren(input, depth, at)?;
+    Ok(Part {
+        tree: Head::Before(Before::While(test.tree)),
+        end: test.end,
+    })
+}
+
+fn repeat_head(input: &Input<'_>, depth: u32, at: u32) -> Result<Part<Head>, ParseError>
+    requires { at < 2 ^ 32 - 2 }
+    ensures { Gives result (made_of (λ e. head.Before (before.Repeat e)) (paren_of input.now.terminals depth at)) }
+{
+    let count = paren(input, depth, at)?;
+    Ok(Part {
+        tree: Head::Before(Before::Repeat(count.tree)),
+        end: count.end,
+    })
+}
+
+fn wait(input: &Input<'_>, depth: u32, at: u32) -> Result<Part<Head>, ParseError>
+    requires { at < 2 ^ 32 - 2 }
+    ensures { Gives result (head_by input.now.terminals input.now.names depth at opening.Wait) }
+{
+    let edge = clock(input, at)?;
+    Ok(Part {
+        tree: Head::Before(Before::Wait {
+            edge,
+            clock: at + 3,
+        }),
+        end: at + 5,
+    })
+}
+
+/// What the statement at a place begins with, up to the first statement in it.
+pub fn head_at(input: &Input<'_>, depth: u32, at: u32) -> Result<Part<Head>, ParseError>
+    ensures exact { Gives result (head_of input.now.terminals input.now.names depth at) }
+    ensures within { OnOk result (at < 2 ^ 32 - 2) }
+{
+    match opening_at(input, at) {
+        Opening::Null => Ok(Part {
+            tree: Head::Whole(Stmt::Null { at }),
+            end: at + 1,
+        }),
+        Opening::Assign => assign(input, depth, at),
+        Opening::Name => named(input, depth, at),
+        Opening::If => if_head(input, depth, at),
+        Opening::Case => case_head(input, depth, at),
+        Opening::For => for_head(input, depth, at),
+        Opening::While => while_head(input, depth, at),
+        Opening::Repeat => repeat_head(input, depth, at),
+        Opening::Forever => Ok(Part {
+            tree: Head::Before(Before::Forever),
+            end: at + 1,
+        }),
+        Opening::Block => block(input, depth, at),
+        Opening::Wait => wait(input, depth, at),
+        Opening::Disable => disable(input, depth, at),
+        Opening::Nothing => Err(ParseError::NoTree { at }),
+    }
 }

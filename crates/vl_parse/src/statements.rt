@@ -1,21 +1,22 @@
 //! Statements. A function takes the depth that what stands in the statement may have.
-ghost use Rattle.std.specs.Prelude.{◌≡◌, ◌<◌, ◌^◌, ◌-◌, ◌+◌, ◌*◌, length, slice_get};
-ghost use Rattle.vl_expr.specs.Reading.{Gives};
-ghost use Rattle.vl_expr.specs.Classes.{is_at};
-ghost use Rattle.vl_parse.specs.Parts.{many_of};
+ghost use Rattle.std.specs.Prelude.{◌≡◌, ◌<◌, ◌^◌, ◌-◌, ◌+◌, ◌*◌, length, slice_get, Ok};
 ghost use Rattle.vl_tree.specs.declared.terminals.Terminal.TheVariants as lex;
-ghost use Rattle.vl_parse.specs.Statements.{opens_stmt, opening_of, else_of, if_of, default_of, labels_of, citem_of, next_citem, opens_citem, citems_from, citems_of, case_of, for_of, while_of, repeat_of, forever_of, block_of, wait_of, stmt_by, stmt_of};
+ghost use Rattle.vl_tree.specs.declared.statements.Stmt.TheVariants as stmt;
+ghost use Rattle.vl_expr.specs.Reading.{Gives, past};
+ghost use Rattle.vl_parse.specs.Parts.{part, many_of};
+ghost use Rattle.vl_parse.specs.Declarations.{exprs_at};
+ghost use Rattle.vl_parse.specs.Statements.{opens_stmt, else_of, opens_citem, citems_from, stmt_of};
+ghost use Rattle.vl_parse.specs.inner.Steps.{ended_of};
+ghost use Rattle.vl_parse.specs.inner.Heads.{label_of, labelled, citem_by, citems_by, nested, rest_of};
 
-use crate::classes::{Opening, opening_at};
-use crate::declarations::{exprs, paren};
+use crate::declarations::exprs;
 use crate::input::Input;
 use crate::lists::Parse;
-use crate::nodes::{for_node, forever_node, if_alone, if_else, repeat_node, wait_node, while_node};
 use crate::part::{Part, added, boxed, none, single};
-use crate::simple::{assign, clock, disable, for_header, named, scope};
-use sqlite_items::Items;
+use crate::simple::{Before, Head, Label, head_at};
+use sqlite_items::{Boxed, Items};
 use vl_expr::ParseError;
-use vl_tree::{Citem, Expr, Stmt, Terminal};
+use vl_tree::{Citem, Expr, Scope, Stmt, Terminal};
 
 /// The statement that begins at a place and is not deeper than `depth`.
 #[cycle(statement)]
@@ -25,133 +26,102 @@ pub fn stmt(input: &Input<'_>, depth: u32, at: u32) -> Result<Part<Stmt>, ParseE
     if depth == 0 {
         return Err(ParseError::NoTree { at });
     }
-    match opening_at(input, at) {
-        Opening::Nothing => Err(ParseError::NoTree { at }),
-        first => opened(input, depth - 1, at, first),
+    let head = head_at(input, depth - 1, at)?;
+    rest(input, depth - 1, at, head)
+}
+
+/// The statement whose head was read.
+#[cycle(statement)]
+fn rest(input: &Input<'_>, depth: u32, at: u32, head: Part<Head>) -> Result<Part<Stmt>, ParseError>
+    requires { at < 2 ^ 32 - 2 }
+    ensures { Gives result
+        (rest_of input.now.terminals (stmt_of input.now.terminals input.now.names depth) depth at head) }
+{
+    let Part { tree, end } = head;
+    match tree {
+        Head::Whole(tree) => Ok(Part { tree, end }),
+        Head::If(test) => {
+            let first = inner(input, depth, end)?;
+            branches(input, depth, at, test, first)
+        }
+        Head::Case(on) => {
+            let items = citems(input, depth, end)?;
+            case_end(input, at, on, items)
+        }
+        Head::Block(scope) => {
+            let body = stmts(input, depth, end)?;
+            block_end(input, at, scope, body)
+        }
+        Head::Before(before) => {
+            let body = inner(input, depth, end)?;
+            Ok(Part {
+                tree: nested(at, before, body.tree),
+                end: body.end,
+            })
+        }
     }
 }
 
-/// A statement that begins in this way.
+/// A statement inside another.
 #[cycle(statement)]
-fn opened(input: &Input<'_>, depth: u32, at: u32, first: Opening) -> Result<Part<Stmt>, ParseError>
-    requires { at < 2 ^ 32 - 2 }
-    ensures { Gives result
-        (stmt_by input.now.terminals input.now.names (stmt_of input.now.terminals input.now.names depth) depth at first) }
+fn inner(input: &Input<'_>, depth: u32, at: u32) -> Result<Part<Boxed<Stmt>>, ParseError>
+    ensures { Gives result (stmt_of input.now.terminals input.now.names depth at) }
 {
-    match first {
-        Opening::Null => Ok(Part {
-            tree: Stmt::Null { at },
-            end: at + 1,
-        }),
-        Opening::Assign => assign(input, depth, at),
-        Opening::Name => named(input, depth, at),
-        Opening::If => if_at(input, depth, at),
-        Opening::Case => case_at(input, depth, at),
-        Opening::For => for_at(input, depth, at),
-        Opening::While => while_at(input, depth, at),
-        Opening::Repeat => repeat_at(input, depth, at),
-        Opening::Forever => forever_at(input, depth, at),
-        Opening::Block => block_at(input, depth, at),
-        Opening::Wait => wait_at(input, depth, at),
-        Opening::Disable => disable(input, depth, at),
-        Opening::Nothing => Err(ParseError::NoTree { at }),
-    }
-}
-
-#[cycle(statement)]
-fn if_at(input: &Input<'_>, depth: u32, at: u32) -> Result<Part<Stmt>, ParseError>
-    requires { at < 2 ^ 32 - 2 }
-    ensures { Gives result
-        (if_of input.now.terminals (stmt_of input.now.terminals input.now.names depth) depth at) }
-{
-    let test = paren(input, depth, at)?;
-    let first = stmt(input, depth, test.end)?;
-    else_at(input, depth, at, test.tree, first)
+    let part = stmt(input, depth, at)?;
+    let tree = boxed(input.alloc(), part.tree)?;
+    Ok(Part {
+        tree,
+        end: part.end,
+    })
 }
 
 /// An `else` goes with the nearest `if`.
 #[cycle(statement)]
-fn else_at(
+fn branches(
     input: &Input<'_>,
     depth: u32,
     at: u32,
-    test: Expr,
-    first: Part<Stmt>,
+    test: Boxed<Expr>,
+    first: Part<Boxed<Stmt>>,
 ) -> Result<Part<Stmt>, ParseError>
     ensures { Gives result
         (else_of input.now.terminals (stmt_of input.now.terminals input.now.names depth) at test first) }
 {
     if !input.is_at(first.end, Terminal::Else) {
-        return if_alone(input.alloc(), at, test, first);
+        return Ok(Part {
+            tree: Stmt::If {
+                at,
+                test,
+                first: first.tree,
+                second: None,
+            },
+            end: first.end,
+        });
     }
-    let second = stmt(input, depth, first.end + 1)?;
-    if_else(input.alloc(), at, test, first.tree, second)
-}
-
-#[cycle(statement)]
-fn default_at(input: &Input<'_>, depth: u32, at: u32) -> Result<Part<Citem>, ParseError>
-    requires { at < 2 ^ 32 - 2 }
-    ensures { Gives result
-        (default_of input.now.terminals (stmt_of input.now.terminals input.now.names depth) at) }
-{
-    let colon = input.is_at(at + 1, Terminal::Colon);
-    let body = stmt(input, depth, input.behind(Terminal::Colon, at + 1))?;
+    let second = inner(input, depth, first.end + 1)?;
     Ok(Part {
-        tree: Citem::Default {
+        tree: Stmt::If {
             at,
-            colon,
-            body: body.tree,
+            test,
+            first: first.tree,
+            second: Some(second.tree),
         },
-        end: body.end,
+        end: second.end,
     })
-}
-
-#[cycle(statement)]
-fn labels_at(input: &Input<'_>, depth: u32, at: u32) -> Result<Part<Citem>, ParseError>
-    ensures { Gives result
-        (labels_of input.now.terminals (stmt_of input.now.terminals input.now.names depth) depth at) }
-{
-    let labels = exprs(input, depth, at)?;
-    input.expect(labels.end, Terminal::Colon)?;
-    let body = stmt(input, depth, labels.end + 1)?;
-    Ok(Part {
-        tree: Citem::Labels {
-            at,
-            labels: labels.tree,
-            body: body.tree,
-        },
-        end: body.end,
-    })
-}
-
-#[cycle(statement)]
-fn citem_at(input: &Input<'_>, depth: u32, at: u32) -> Result<Part<Citem>, ParseError>
-    ensures { Gives result
-        (citem_of input.now.terminals (stmt_of input.now.terminals input.now.names depth) depth at) }
-{
-    if input.is_at(at, Terminal::Default) {
-        default_at(input, depth, at)
-    } else {
-        labels_at(input, depth, at)
-    }
 }
 
 /// A case item, unless it is a second default.
 #[cycle(statement)]
-fn next_citem(
-    input: &Input<'_>,
-    depth: u32,
-    at: u32,
-    defaulted: bool,
-) -> Result<Part<Citem>, ParseError>
+fn citem(input: &Input<'_>, depth: u32, at: u32, defaulted: bool) -> Result<Part<Citem>, ParseError>
     ensures { Gives result
-        (next_citem input.now.terminals (stmt_of input.now.terminals input.now.names depth) depth defaulted at) }
+        (citem_by input.now.terminals (stmt_of input.now.terminals input.now.names depth) depth defaulted at) }
 {
-    if defaulted && input.is_at(at, Terminal::Default) {
-        Err(ParseError::NoTree { at })
-    } else {
-        citem_at(input, depth, at)
-    }
+    let label = label(input, depth, at, defaulted)?;
+    let body = stmt(input, depth, label.end)?;
+    Ok(Part {
+        tree: labelled(at, label.tree, body.tree),
+        end: body.end,
+    })
 }
 
 /// Further case items up to `endcase`, no default among them if there was one before.
@@ -172,7 +142,7 @@ fn further_citems(
         if !opens_citem(input.get(all.end)) {
             break;
         }
-        let next = next_citem(input, depth, all.end, defaulted)?;
+        let next = citem(input, depth, all.end, defaulted)?;
         defaulted |= input.is_at(all.end, Terminal::Default);
         all = added(all, next)?;
     }
@@ -181,80 +151,18 @@ fn further_citems(
 
 /// Case items up to `endcase`, at most one of them a default.
 #[cycle(statement)]
-fn citems_at(input: &Input<'_>, depth: u32, at: u32) -> Result<Part<Items<Citem>>, ParseError>
+fn citems(input: &Input<'_>, depth: u32, at: u32) -> Result<Part<Items<Citem>>, ParseError>
     ensures { Gives result
-        (citems_of input.now.terminals (stmt_of input.now.terminals input.now.names depth) depth at) }
+        (citems_by input.now.terminals (stmt_of input.now.terminals input.now.names depth) depth at) }
 {
-    let first = citem_at(input, depth, at)?;
+    let first = citem(input, depth, at, false)?;
     let all = single(input.alloc(), first)?;
     further_citems(input, depth, input.is_at(at, Terminal::Default), all)
 }
 
-#[cycle(statement)]
-fn case_at(input: &Input<'_>, depth: u32, at: u32) -> Result<Part<Stmt>, ParseError>
-    requires { at < 2 ^ 32 - 2 }
-    ensures { Gives result
-        (case_of input.now.terminals (stmt_of input.now.terminals input.now.names depth) depth at) }
-{
-    let on = paren(input, depth, at)?;
-    let items = citems_at(input, depth, on.end)?;
-    input.expect(items.end, Terminal::Endcase)?;
-    let on = boxed(input.alloc(), on.tree)?;
-    Ok(Part {
-        tree: Stmt::Case {
-            at,
-            on,
-            items: items.tree,
-        },
-        end: items.end + 1,
-    })
-}
-
-#[cycle(statement)]
-fn for_at(input: &Input<'_>, depth: u32, at: u32) -> Result<Part<Stmt>, ParseError>
-    requires { at < 2 ^ 32 - 2 }
-    ensures { Gives result
-        (for_of input.now.terminals input.now.names (stmt_of input.now.terminals input.now.names depth) depth at) }
-{
-    let header = for_header(input, depth, at)?;
-    let body = stmt(input, depth, header.end)?;
-    for_node(input.alloc(), at, header.tree, body)
-}
-
-#[cycle(statement)]
-fn while_at(input: &Input<'_>, depth: u32, at: u32) -> Result<Part<Stmt>, ParseError>
-    requires { at < 2 ^ 32 - 2 }
-    ensures { Gives result
-        (while_of input.now.terminals (stmt_of input.now.terminals input.now.names depth) depth at) }
-{
-    let test = paren(input, depth, at)?;
-    let body = stmt(input, depth, test.end)?;
-    while_node(input.alloc(), at, test.tree, body)
-}
-
-#[cycle(statement)]
-fn repeat_at(input: &Input<'_>, depth: u32, at: u32) -> Result<Part<Stmt>, ParseError>
-    requires { at < 2 ^ 32 - 2 }
-    ensures { Gives result
-        (repeat_of input.now.terminals (stmt_of input.now.terminals input.now.names depth) depth at) }
-{
-    let count = paren(input, depth, at)?;
-    let body = stmt(input, depth, count.end)?;
-    repeat_node(input.alloc(), at, count.tree, body)
-}
-
-#[cycle(statement)]
-fn forever_at(input: &Input<'_>, depth: u32, at: u32) -> Result<Part<Stmt>, ParseError>
-    requires { at < 2 ^ 32 - 2 }
-    ensures { Gives result (forever_of (stmt_of input.now.terminals input.now.names depth) at) }
-{
-    let body = stmt(input, depth, at + 1)?;
-    forever_node(input.alloc(), at, body)
-}
-
 /// Statements up to `end`.
 #[cycle(statement)]
-fn stmts_at(input: &Input<'_>, depth: u32, at: u32) -> Result<Part<Items<Stmt>>, ParseError>
+fn stmts(input: &Input<'_>, depth: u32, at: u32) -> Result<Part<Items<Stmt>>, ParseError>
     ensures { Gives result
         (many_of input.now.terminals opens_stmt (stmt_of input.now.terminals input.now.names depth) at) }
 {
@@ -269,41 +177,121 @@ fn stmts_at(input: &Input<'_>, depth: u32, at: u32) -> Result<Part<Items<Stmt>>,
     Ok(all)
 }
 
-#[cycle(statement)]
-fn block_at(input: &Input<'_>, depth: u32, at: u32) -> Result<Part<Stmt>, ParseError>
-    requires { at < 2 ^ 32 - 2 }
-    ensures { Gives result
-        (block_of input.now.terminals (stmt_of input.now.terminals input.now.names depth) depth at) }
+impl Parse for Stmt {
+    ghost reading = { λ i n at. stmt_of i.terminals i.names n at };
+
+    fn parse(input: &Input<'_>, depth: u32, at: u32) -> Result<Part<Stmt>, ParseError> {
+        stmt(input, depth, at)
+    }
+}
+
+/// Expressions before a colon.
+fn labels(input: &Input<'_>, depth: u32, at: u32) -> Result<Part<Items<Expr>>, ParseError>
+    ensures { Gives result (ended_of input.now.terminals lex.Colon (exprs_at input.now.terminals depth) at) }
 {
-    let scope = scope(input, depth, at + 1)?;
-    let body = stmts_at(input, depth, scope.end)?;
+    let labels = exprs(input, depth, at)?;
+    input.expect(labels.end, Terminal::Colon)?;
+    Ok(Part {
+        tree: labels.tree,
+        end: labels.end + 1,
+    })
+}
+
+/// What stands before the statement of a case item, unless it is a second default.
+fn label(input: &Input<'_>, depth: u32, at: u32, defaulted: bool) -> Result<Part<Label>, ParseError>
+    ensures { Gives result (label_of input.now.terminals depth defaulted at) }
+{
+    if defaulted && input.is_at(at, Terminal::Default) {
+        return Err(ParseError::NoTree { at });
+    }
+    if input.is_at(at, Terminal::Default) {
+        let colon = input.is_at(at + 1, Terminal::Colon);
+        return Ok(Part {
+            tree: Label::Default { colon },
+            end: input.behind(Terminal::Colon, at + 1),
+        });
+    }
+    let labels = labels(input, depth, at)?;
+    Ok(Part {
+        tree: Label::Exprs(labels.tree),
+        end: labels.end,
+    })
+}
+
+fn labelled(at: u32, label: Label, body: Stmt) -> Citem
+    ensures { result ≡ labelled at label body }
+{
+    match label {
+        Label::Default { colon } => Citem::Default { at, colon, body },
+        Label::Exprs(labels) => Citem::Labels { at, labels, body },
+    }
+}
+
+/// The case whose items were read.
+fn case_end(
+    input: &Input<'_>,
+    at: u32,
+    on: Boxed<Expr>,
+    items: Part<Items<Citem>>,
+) -> Result<Part<Stmt>, ParseError>
+    ensures { Gives result
+        (past input.now.terminals items.end lex.Endcase (Ok (part (stmt.Case at on items.tree) (items.end + 1)))) }
+{
+    input.expect(items.end, Terminal::Endcase)?;
+    Ok(Part {
+        tree: Stmt::Case {
+            at,
+            on,
+            items: items.tree,
+        },
+        end: items.end + 1,
+    })
+}
+
+/// The block whose statements were read.
+fn block_end(
+    input: &Input<'_>,
+    at: u32,
+    scope: Option<Boxed<Scope>>,
+    body: Part<Items<Stmt>>,
+) -> Result<Part<Stmt>, ParseError>
+    ensures { Gives result
+        (past input.now.terminals body.end lex.End (Ok (part (stmt.Block at scope body.tree) (body.end + 1)))) }
+{
     input.expect(body.end, Terminal::End)?;
     Ok(Part {
         tree: Stmt::Block {
             at,
-            scope: scope.tree,
+            scope,
             body: body.tree,
         },
         end: body.end + 1,
     })
 }
 
-#[cycle(statement)]
-fn wait_at(input: &Input<'_>, depth: u32, at: u32) -> Result<Part<Stmt>, ParseError>
+fn nested(at: u32, before: Before, body: Boxed<Stmt>) -> Stmt
     requires { at < 2 ^ 32 - 2 }
-    ensures { Gives result
-        (wait_of input.now.terminals (stmt_of input.now.terminals input.now.names depth) at) }
+    ensures { result ≡ nested at before body }
 {
-    let edge = clock(input, at)?;
-    let body = stmt(input, depth, at + 5)?;
-    wait_node(input.alloc(), at, edge, at + 3, body)
-}
-
-impl Parse for Stmt {
-    ghost reading = { λ i n at. stmt_of i.terminals i.names n at };
-
-    fn parse(input: &Input<'_>, depth: u32, at: u32) -> Result<Part<Stmt>, ParseError> {
-        stmt(input, depth, at)
+    match before {
+        Before::For(header) => Stmt::For {
+            at,
+            name: at + 2,
+            first: header.first,
+            test: header.test,
+            again: header.again,
+            next: header.next,
+            body,
+        },
+        Before::While(test) => Stmt::While { at, test, body },
+        Before::Repeat(count) => Stmt::Repeat { at, count, body },
+        Before::Forever => Stmt::Forever { at, body },
+        Before::Wait { edge, clock } => Stmt::Wait {
+            at,
+            edge,
+            clock,
+            body,
+        },
     }
 }
 
