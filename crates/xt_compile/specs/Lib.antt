@@ -1,1 +1,2 @@
+pub mod Hardware
 pub mod first

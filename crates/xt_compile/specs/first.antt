@@ -3,7 +3,6 @@ pub mod Source
 pub mod Flatten
 pub mod Form
 pub mod Tree
-pub mod Reading
 pub mod Machine
 pub mod Nodes
 pub mod Compiled

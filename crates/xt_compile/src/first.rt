@@ -3,6 +3,7 @@
 pub mod compile;
 mod counts;
 mod flatten;
+pub mod laws;
 mod names;
 mod numbers;
 pub mod reader;

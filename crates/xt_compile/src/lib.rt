@@ -6,6 +6,7 @@
 mod first;
 
 pub use first::compile::compile;
+pub use first::laws::sources_are_checked;
 pub use first::reader::read;
 pub use first::source::{Port, Source, Step, Sum, Term};
 pub use first::tokens::FormError;

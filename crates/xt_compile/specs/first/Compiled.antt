@@ -1,9 +1,6 @@
 -- What a compiled netlist is made of, and what its ticks do. All of it is this project's own.
-use Rattle.std.specs.Prelude.{◌≡◌, ◌↔◌, ◌<◌, ◌≤◌, ◌^◌, ℕ, true, List, [], ◌∷◌, ◌++◌, map, length, get_or, All}
-use Rattle.xt_bits.specs.Stimulus.{Stimulus}
-use Rattle.xt_bits.specs.Trace.{Seen, Rested, Trace}
+use Rattle.std.specs.Prelude.{◌≡◌, ◌<◌, ◌≤◌, ◌^◌, ℕ, true, List, [], ◌∷◌, ◌++◌, map, length, get_or}
 use Rattle.xt_bits.specs.Word.{Word, word}
-use Rattle.nt_core.specs.DesignRun.{IsDesignTrace}
 use Rattle.nt_core.specs.declared.netlist.Node.{Node}
 use Rattle.nt_core.specs.NodeValue.{value_at, values}
 use Rattle.nt_core.specs.Parts.{Parts}
@@ -11,19 +8,19 @@ use Rattle.nt_core.specs.Ports.{edge_up, outputs}
 use Rattle.nt_core.specs.Sources.{Sources, State}
 use Rattle.el_design.specs.declared.designs.Design.{Design}
 use Rattle.el_design.specs.Plain.{Statement}
-use Rattle.el_design.specs.Queue.{scene_of, Event}
-use Rattle.el_design.specs.Run.{IsStimulus, Runs}
+use Rattle.el_design.specs.Queue.{scene_of}
 use Rattle.el_design.specs.Value.{Scene}
 use Rattle.el_design.specs.View.{flat_of}
 use Rattle.xt_compile.specs.declared.first.compile.expression.ValueMap.{ValueMap}
-use Rattle.xt_compile.specs.first.Form.{var_widths, input_wires, output_wires}
+use Rattle.xt_compile.specs.Hardware.{input_pins, output_pins}
+use Rattle.xt_compile.specs.first.Form.{var_widths}
 use Rattle.xt_compile.specs.first.Machine.{stretch, nets_of, pins_seen}
 use Rattle.xt_compile.specs.first.Nodes.{node_shown, words_of, read_registers, all_assigned, rest_at, waits, next_point, state_width}
 
--- The outside of a netlist is the design's: its pins, by name and width and in their order, and the number of its processes. The form has no calls of the host.
-pub record HasOutside (d : Design) (n : Parts) : Type 0 where
-  pub inputs : n.inputs ≡ input_wires d
-  pub outputs : n.outputs ≡ output_wires d
+-- a netlist has the pins and processes of a design; it has no functions, and no ports for calls
+pub record HasPins (d : Design) (n : Parts) : Type 0 where
+  pub inputs : n.inputs ≡ input_pins d
+  pub outputs : n.outputs ≡ output_pins d
   pub processes : n.processes ≡ length d.procs
   pub functions : n.functions ≡ []
   pub hosts : n.hosts ≡ []
@@ -31,7 +28,7 @@ pub record HasOutside (d : Design) (n : Parts) : Type 0 where
 -- the parts of the netlist of a design, with these nodes
 pub record IsBuilt (d : Design) (n : Parts) (m : ValueMap) (edge : ℕ) (nodes : List Node) (nexts : List ℕ) : Type 0 where
   pub with_nodes : n.nodes ≡ nodes
-  pub outside : HasOutside d n
+  pub outside : HasPins d n
   pub registers : n.registers ≡ map (λ v. v.start) d.vars ++ word state_width 0 ∷ []
   pub drives : n.drives ≡ edge ∷ map (λ p. node_shown m p.from) d.outputs
   pub with_nexts : n.nexts ≡ nexts
@@ -54,17 +51,3 @@ pub record Ticks (d : Design) (n : Parts) (body : List Statement) : Type 0 where
   pub steps : (s : Sources) (point : ℕ) → get_or s.state.registers (length d.vars) (word state_width 0) ≡ word state_width point → point ≤ waits body → 1 ≤ waits body
       → map (value_at (values n.nodes s)) n.nexts
       ≡ all_assigned (flat_of d) (scene_held d s) (stretch body (rest_at point body)) (held d s.state) ++ word state_width (next_point point body) ∷ []
-
--- in an edge nothing is called, and it takes one tick
-pub record TakesOneTick (s : Seen) : Type 0 where
-  pub pins : List Word
-  pub calls : s.calls ≡ [] ∷ []
-  pub ending : s.ending ≡ Rested 1 pins
-
--- The theorem of the compiler. Whatever the stimulus and the order of events: the netlist has one design trace, that of each run of the source's event queue, with the
--- ticks of each edge, which is one tick each; each stimulus has a run; and the netlist's outside is the source's.
-pub record IsCompiled (d : Design) (n : Parts) : Type 0 where
-  pub outside : HasOutside d n
-  pub each_run : (x : Stimulus) → IsStimulus (flat_of d) x → (plays : List (List Event)) (trace : Trace) → Runs (flat_of d) x plays trace → (t : Trace) → IsDesignTrace n x t ↔ (t ≡ trace)
-  pub some_run : (x : Stimulus) → IsStimulus (flat_of d) x → (plays : List (List Event)) × (trace : Trace) × Runs (flat_of d) x plays trace
-  pub one_tick : (x : Stimulus) → IsStimulus (flat_of d) x → (t : Trace) → IsDesignTrace n x t → All TakesOneTick t

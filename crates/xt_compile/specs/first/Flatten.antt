@@ -25,17 +25,16 @@ use Rattle.xt_compile.specs.declared.first.source.Term.TheVariants.{Input, Outpu
 use Rattle.xt_compile.specs.declared.first.source.Step.{Step}
 use Rattle.xt_compile.specs.declared.first.source.Step.TheVariants.{Wait, Assign}
 
--- Every place of the form's design is line 0, which stands for the file as a whole: no trace has a place in it, and the line of rule 61 comes from the token.
-abbrev pub whole_file : Place
-whole_file = record { file = 0; line = 0; instance = 0 }
-
 -- an output is a variable that starts at 0
 abbrev pub var_of : Port → Var
-var_of p = record { name = p.name; width = p.width; signed = false; lsb = 0; words = 0; low = 0; start = word p.width 0; place = whole_file }
+var_of p = record { name = p.name; width = p.width; signed = false; lsb = 0; words = 0; low = 0; start = word p.width 0; place = p.place }
 
 -- an input is a net without an expression
-abbrev pub net_of : List ℕ → ℕ → Net
-net_of name width = record { name = name; width = width; signed = false; lsb = 0; value = None; place = whole_file }
+abbrev pub net_of : List ℕ → ℕ → Place → Net
+net_of name width place = record { name = name; width = width; signed = false; lsb = 0; value = None; place = place }
+
+abbrev pub input_of : Port → Net
+input_of p = net_of p.name p.width p.place
 
 -- an output pin shows a variable
 abbrev pub pin_of : ℕ × Port → Pin
@@ -57,22 +56,22 @@ abbrev pub sum_of : Sum → TExpr
 sum_of s = fold (added s.width) (typed s.width (kind_of s.first)) s.more
 
 abbrev pub statement_of : Step → Stmt
-statement_of Wait = stmts.Wait whole_file false
-statement_of (Assign i s) = stmts.Assign whole_file (targets.Var i) (sum_of s) true
+statement_of (Wait at) = stmts.Wait at false
+statement_of (Assign at i s) = stmts.Assign at (targets.Var i) (sum_of s) true
 
-abbrev pub process_of : List Step → Proc
-process_of steps = record { always = true; body = stmts.Block whole_file None (map statement_of steps); place = whole_file }
+abbrev pub process_of : Source → Proc
+process_of s = record { always = true; body = stmts.Block s.block None (map statement_of s.steps); place = s.process }
 
 abbrev pub design_of : Source → Design
 design_of s = record {
   vars = map var_of s.outputs;
-  nets = net_of s.clock 1 ∷ map (λ p. net_of p.name p.width) s.inputs;
+  nets = net_of s.clock 1 s.clock_place ∷ map input_of s.inputs;
   tasks = [];
   funcs = [];
   imports = [];
-  procs = process_of s.steps ∷ [];
+  procs = process_of s ∷ [];
   marks = 0;
   inputs = numbers_from 1 (length s.inputs);
   outputs = map pin_of (enumerate_from 0 s.outputs);
-  head = whole_file;
+  head = s.head;
 }

@@ -1,7 +1,5 @@
 -- What the compiler takes today: a flat design of one process of waits and of nonblocking assignments of sums. All of it is this project's own.
-use Rattle.std.specs.Prelude.{◌≡◌, ◌≢◌, ◌<◌, ◌^◌, ℕ, true, false, List, [], ◌∷◌, ◌++◌, map, length, get_or, slice_get, Some, None, IsSomeAnd, All, AllPairs}
-use Rattle.xt_base.specs.declared.refusals.Place.{Place}
-use Rattle.xt_bits.specs.Word.{word}
+use Rattle.std.specs.Prelude.{◌≡◌, ◌≢◌, ◌<◌, ◌^◌, ℕ, true, false, List, [], ◌∷◌, ◌++◌, map, length, slice_get, Some, None, IsSomeAnd, All, AllPairs}
 use Rattle.el_design.specs.declared.designs.Design.{Design}
 use Rattle.el_design.specs.declared.designs.Net.{Net}
 use Rattle.el_design.specs.declared.designs.Proc.{Proc}
@@ -11,26 +9,9 @@ use Rattle.el_design.specs.declared.designs.Var.{Var}
 use Rattle.el_design.specs.declared.expressions.BinOp.TheVariants as binary
 use Rattle.el_design.specs.Plain.{Expr, Number, NetValue, Variable, Binary, ToVariable, Statement, Skip, Seq, Block, Wait, Assign}
 use Rattle.el_design.specs.View.{statement_of}
-use Rattle.nt_core.specs.declared.netlist.Wire.{Wire}
 use Rattle.nt_core.specs.Forms.{IsWidth}
 use Rattle.nt_core.specs.Conditions.{IsPin}
-
--- ---- the parts of a design by their numbers
-
-abbrev pub no_place : Place
-no_place = record { file = 0; line = 0; instance = 0 }
-
-abbrev pub no_net : Net
-no_net = record { name = []; width = 1; signed = false; lsb = 0; value = None; place = no_place }
-
-abbrev pub no_var : Var
-no_var = record { name = []; width = 1; signed = false; lsb = 0; words = 0; low = 0; start = word 1 0; place = no_place }
-
-abbrev pub net_at : Design → ℕ → Net
-net_at d n = get_or d.nets n no_net
-
-abbrev pub var_at : Design → ℕ → Var
-var_at d v = get_or d.vars v no_var
+use Rattle.xt_compile.specs.Hardware.{input_pins, output_pins}
 
 -- the widths of the variables and of the nets, in bits
 abbrev pub var_widths : Design → List ℕ
@@ -45,19 +26,6 @@ net_widths d = map (λ n. n.width) d.nets
 abbrev pub IsThere : Design → Source → Type 0
 IsThere d (sources.Var v) = v < length d.vars
 IsThere d (sources.Net n) = n < length d.nets
-
-abbrev pub source_width : Design → Source → ℕ
-source_width d (sources.Var v) = (var_at d v).width
-source_width d (sources.Net n) = (net_at d n).width
-
-abbrev pub wire : List ℕ → ℕ → Wire
-wire name width = record { name = name; width = width }
-
-abbrev pub input_wires : Design → List Wire
-input_wires d = map (λ n. wire (net_at d n).name (net_at d n).width) d.inputs
-
-abbrev pub output_wires : Design → List Wire
-output_wires d = map (λ p. wire p.name (source_width d p.from)) d.outputs
 
 -- ---- the process
 
@@ -113,6 +81,6 @@ pub record IsOfForm (d : Design) : Type 0 where
   pub steps : IsProcess (var_widths d) (net_widths d) process
   pub inputs : All (λ n. n < length d.nets) d.inputs
   pub outputs : All (λ p. IsThere d p.from) d.outputs
-  pub input_pins : All IsPin (input_wires d)
-  pub output_pins : All IsPin (output_wires d)
-  pub distinct : AllPairs (λ a b. a.name ≢ b.name) (input_wires d ++ output_wires d)
+  pub named_inputs : All IsPin (input_pins d)
+  pub named_outputs : All IsPin (output_pins d)
+  pub distinct : AllPairs (λ a b. a.name ≢ b.name) (input_pins d ++ output_pins d)

@@ -20,7 +20,8 @@ use Rattle.el_design.specs.Value.{Scene, value}
 use Rattle.el_design.specs.Queue.{scene_of}
 use Rattle.el_design.specs.View.{flat_of}
 use Rattle.xt_compile.specs.declared.first.compile.expression.ValueMap.{ValueMap}
-use Rattle.xt_compile.specs.first.Form.{var_widths, net_widths, input_wires}
+use Rattle.xt_compile.specs.Hardware.{input_pins}
+use Rattle.xt_compile.specs.first.Form.{var_widths, net_widths}
 use Rattle.xt_compile.specs.first.Machine.{is_wait, behind, stretch, read_pins}
 
 -- the width of a control point, in bits
@@ -35,7 +36,7 @@ register_widths d = var_widths d ++ state_width ∷ []
 
 -- a form reads only pins and registers that the design has, in their widths
 abbrev pub IsSourced : Design → Op → Type 0
-IsSourced d (Pin p w) = slice_get (map (λ i. i.width) (input_wires d)) p ≡ Some w
+IsSourced d (Pin p w) = slice_get (map (λ i. i.width) (input_pins d)) p ≡ Some w
 IsSourced d (Reg r w) = slice_get (register_widths d) r ≡ Some w
 IsSourced d (Ack p) = ⊥
 IsSourced d (Ret p i w) = ⊥

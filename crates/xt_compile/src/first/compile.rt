@@ -2,12 +2,14 @@
 ghost use Rattle.std.specs.Prelude.{◌≡◌, true, List, IfOk, All};
 ghost use Rattle.el_design.specs.Plain.{Statement};
 ghost use Rattle.el_design.specs.View.{statement_of, flat_of};
-ghost use Rattle.nt_core.specs.Conditions.{Drive};
+ghost use Rattle.nt_core.specs.Conditions.{Drive, IsNetlist};
+ghost use Rattle.nt_core.specs.Text.{text_of};
 ghost use Rattle.xt_bits.specs.Word.{word};
 ghost use Rattle.xt_compile.specs.first.Source.{IsSource, waits};
 ghost use Rattle.xt_compile.specs.first.Flatten.{design_of};
 ghost use Rattle.xt_compile.specs.first.Form.{IsOfForm, IsStatement, var_widths, net_widths};
-ghost use Rattle.xt_compile.specs.first.Compiled.{HasOutside, IsBuilt, IsCompiled, Ticks};
+ghost use Rattle.xt_compile.specs.Hardware.{IsHardwareOf};
+ghost use Rattle.xt_compile.specs.first.Compiled.{HasPins, IsBuilt, Ticks};
 ghost use Rattle.xt_compile.specs.first.Machine.{HasBody, statements_of};
 ghost use Rattle.xt_compile.specs.first.Nodes.{AreSourced, Means, HasWidth, IsMap, register_widths};
 
@@ -29,13 +31,10 @@ use std::alloc::Global;
 use xt_base::NoMemory;
 use xt_bits::Bits;
 
-/// The netlist of a source.
-///
-/// It has the source's pins. If the source's process waits, it does what the source does, whatever the order of events.
+/// The netlist of a source. Where the source's process waits, it is the hardware of the source's design.
 pub fn compile(alloc: Global, source: &Source) -> Result<Netlist, NoMemory>
     requires { IsSource source.now }
-    ensures outside { IfOk result (HasOutside (design_of source.now)) }
-    ensures compiled { IfOk result (λ n. waits source.now ≡ true → IsCompiled (design_of source.now) n) }
+    ensures { IfOk result (λ n. waits source.now ≡ true → IsHardwareOf (design_of source.now) (text_of n)) }
 {
     let design = flatten(alloc, source)?;
     netlist(alloc, &design)
@@ -47,7 +46,8 @@ pub fn compile(alloc: Global, source: &Source) -> Result<Netlist, NoMemory>
 /// its k-th wait, from 1. Each edge of the clock takes one tick.
 fn netlist(alloc: Global, design: &Design) -> Result<Netlist, NoMemory>
     requires { IsOfForm design.now }
-    ensures { IfOk result (λ n. HasOutside design.now n × (body : List Statement) × HasBody (flat_of design.now) body × Ticks design.now n body) }
+    ensures ticks { IfOk result (λ n. HasPins design.now n × (body : List Statement) × HasBody (flat_of design.now) body × Ticks design.now n body) }
+    ensures netlist { IfOk result IsNetlist }
 {
     let mut builder = Builder::new(alloc);
     let map = value_map(alloc, design, &mut builder)?;
@@ -93,14 +93,15 @@ fn finish(
     requires map { IsMap design.now builder map.now }
     requires edge { HasWidth builder edge 1 }
     requires nexts { Drive builder nexts.items (register_widths design.now) }
-    ensures { IfOk result (λ n. IsBuilt design.now n map.now edge builder nexts.items) }
+    ensures built { IfOk result (λ n. IsBuilt design.now n map.now edge builder nexts.items) }
+    ensures netlist { IfOk result IsNetlist }
 {
     let processes = number(design.procs.len())?;
     let inputs = input_pins(alloc, design)?;
     let outputs = output_pins(alloc, design)?;
     let registers = registers(alloc, design)?;
     let drives = drives(alloc, design, map, edge)?;
-    Ok(builder.finish(Shell {
+    let netlist = builder.finish(Shell {
         version: 1,
         processes,
         functions: Vec::new(alloc),
@@ -112,5 +113,16 @@ fn finish(
         drives,
         nexts,
         writes: Vec::new(alloc),
-    }))
+    });
+    Ok(kept(netlist))
+}
+
+/// The same netlist, which meets the conditions of netlists.
+fn kept(netlist: Netlist) -> Netlist
+    ensures same { result ≡ netlist }
+    ensures netlist { IsNetlist result }
+{
+    // Its type keeps them: that is seen once a part of it is read.
+    let _version = netlist.version;
+    netlist
 }

@@ -3,7 +3,7 @@ ghost use Rattle.std.specs.Prelude.{◌≡◌, ◌∷◌, [], suc, map, IfOk, Al
 ghost use Rattle.std.specs.List.{enumerate_from};
 ghost use Rattle.el_design.specs.Queue.{numbers_from};
 ghost use Rattle.xt_compile.specs.first.Source.{IsPort, IsSource};
-ghost use Rattle.xt_compile.specs.first.Flatten.{var_of, net_of, pin_of, kind_of, typed, added, sum_of, statement_of, process_of, design_of};
+ghost use Rattle.xt_compile.specs.first.Flatten.{var_of, net_of, input_of, pin_of, kind_of, typed, added, sum_of, statement_of, process_of, design_of};
 
 use crate::first::counts::number;
 use crate::first::source::{Port, Source, Step, Sum, Term};
@@ -15,13 +15,6 @@ use std::alloc::Global;
 use xt_base::{Name, NoMemory, Place};
 use xt_bits::Bits;
 
-/// The place of everything in a source of the form: line 0, which stands for the file as a whole.
-const WHOLE_FILE: Place = Place {
-    file: 0,
-    line: 0,
-    instance: 0,
-};
-
 /// The flat design of the source: net 0 is the clock, the other inputs are the nets behind it, and the outputs are the
 /// variables, which start at 0.
 pub fn flatten(alloc: Global, source: &Source) -> Result<Design, NoMemory>
@@ -31,7 +24,7 @@ pub fn flatten(alloc: Global, source: &Source) -> Result<Design, NoMemory>
     let outputs = source.outputs.as_slice();
     let vars = vars(alloc, outputs)?;
     let nets = nets(alloc, source)?;
-    let procs = process(alloc, source.steps.as_slice())?;
+    let procs = process(alloc, source)?;
     let inputs = input_nets(alloc, source.inputs.len())?;
     let outputs = pins(alloc, outputs)?;
     Ok(Design {
@@ -44,7 +37,7 @@ pub fn flatten(alloc: Global, source: &Source) -> Result<Design, NoMemory>
         marks: 0,
         inputs,
         outputs,
-        head: WHOLE_FILE,
+        head: source.head,
     })
 }
 
@@ -71,23 +64,23 @@ fn var(alloc: Global, port: &Port) -> Result<Var, NoMemory>
         words: 0,
         low: 0,
         start: Bits::new(port.width, 0),
-        place: WHOLE_FILE,
+        place: port.place,
     })
 }
 
 fn nets(alloc: Global, source: &Source) -> Result<Items<Net>, NoMemory>
-    ensures { IfOk result (λ nets. nets ≡ net_of source.now.clock 1 ∷ map (λ p. net_of p.name p.width) source.now.inputs) }
+    ensures { IfOk result (λ nets. nets ≡ net_of source.now.clock 1 source.now.clock_place ∷ map input_of source.now.inputs) }
 {
     let mut nets = Items::new(alloc);
-    nets.push(net(alloc, &source.clock, 1)?)?;
+    nets.push(net(alloc, &source.clock, 1, source.clock_place)?)?;
     for port in source.inputs.as_slice() {
-        nets.push(net(alloc, &port.name, port.width)?)?;
+        nets.push(net(alloc, &port.name, port.width, port.place)?)?;
     }
     Ok(nets)
 }
 
-fn net(alloc: Global, name: &Name, width: u32) -> Result<Net, NoMemory>
-    ensures { IfOk result (λ net. net ≡ net_of name.now width) }
+fn net(alloc: Global, name: &Name, width: u32, place: Place) -> Result<Net, NoMemory>
+    ensures { IfOk result (λ net. net ≡ net_of name.now width place) }
 {
     Ok(Net {
         name: Name::new(alloc, name.as_str())?,
@@ -95,12 +88,12 @@ fn net(alloc: Global, name: &Name, width: u32) -> Result<Net, NoMemory>
         signed: false,
         lsb: 0,
         value: None,
-        place: WHOLE_FILE,
+        place,
     })
 }
 
 /// So many nets behind the clock's.
-#[tactic(auto, using(crate::proofs::Lists::numbers_more))]
+#[tactic(auto, using(crate::proofs::first_form::Lists::numbers_more))]
 fn input_nets(alloc: Global, count: usize) -> Result<Items<u32>, NoMemory>
     ensures { IfOk result (λ nets. nets ≡ numbers_from 1 count) }
 {
@@ -111,7 +104,7 @@ fn input_nets(alloc: Global, count: usize) -> Result<Items<u32>, NoMemory>
     Ok(nets)
 }
 
-#[tactic(auto, using(crate::proofs::Lists::pins_more))]
+#[tactic(auto, using(crate::proofs::first_form::Lists::pins_more))]
 fn pins(alloc: Global, outputs: &[Port]) -> Result<Items<Pin>, NoMemory>
     ensures { IfOk result (λ pins. pins ≡ map pin_of (enumerate_from 0 outputs.now)) }
 {
@@ -131,19 +124,19 @@ fn pin(alloc: Global, place: usize, port: &Port) -> Result<Pin, NoMemory>
     })
 }
 
-fn process(alloc: Global, steps: &[Step]) -> Result<Items<Proc>, NoMemory>
-    ensures { IfOk result (λ procs. procs ≡ process_of steps.now ∷ []) }
+fn process(alloc: Global, source: &Source) -> Result<Items<Proc>, NoMemory>
+    ensures { IfOk result (λ procs. procs ≡ process_of source.now ∷ []) }
 {
-    let body = statements(alloc, steps)?;
+    let body = statements(alloc, source.steps.as_slice())?;
     let mut procs = Items::new(alloc);
     procs.push(Proc {
         always: true,
         body: Stmt::Block {
-            at: WHOLE_FILE,
+            at: source.block,
             mark: None,
             body,
         },
-        place: WHOLE_FILE,
+        place: source.process,
     })?;
     Ok(procs)
 }
@@ -162,12 +155,12 @@ fn statement(alloc: Global, step: &Step) -> Result<Stmt, NoMemory>
     ensures { IfOk result (λ statement. statement ≡ statement_of step.now) }
 {
     match step {
-        Step::Wait => Ok(Stmt::Wait {
-            at: WHOLE_FILE,
+        Step::Wait { at } => Ok(Stmt::Wait {
+            at: *at,
             falling: false,
         }),
-        Step::Assign { output, value } => Ok(Stmt::Assign {
-            at: WHOLE_FILE,
+        Step::Assign { at, output, value } => Ok(Stmt::Assign {
+            at: *at,
             to: Target::Var(number(*output)?),
             value: sum(alloc, value)?,
             held: true,

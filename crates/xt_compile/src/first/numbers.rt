@@ -2,7 +2,7 @@
 ghost use Rattle.std.specs.Prelude.{◌≡◌, ◌%◌, ◌^◌, suc, option_map};
 ghost use Rattle.vl_lex.specs.Numbers.{number_of};
 ghost use Rattle.xt_compile.specs.first.Tree.{radix_of};
-ghost use Rattle.xt_compile.specs.first.Reading.{Gives, based_of, width_of};
+ghost use Rattle.xt_compile.specs.first.Tree.{Gives, based_of, width_of};
 
 use crate::first::tokens::FormError;
 use vl_lex::{capped_value, wrapped_value};

@@ -4,7 +4,8 @@ ghost use Rattle.xt_bits.specs.Word.{word};
 ghost use Rattle.nt_core.specs.Forms.{IsWidth};
 ghost use Rattle.el_design.specs.Queue.{pin_value};
 ghost use Rattle.el_design.specs.View.{flat_of};
-ghost use Rattle.xt_compile.specs.first.Form.{IsOfForm, var_widths, net_widths, input_wires};
+ghost use Rattle.xt_compile.specs.Hardware.{input_pins};
+ghost use Rattle.xt_compile.specs.first.Form.{IsOfForm, var_widths, net_widths};
 ghost use Rattle.xt_compile.specs.first.Machine.{read_pins};
 ghost use Rattle.xt_compile.specs.first.Nodes.{Extends, Means, MeansEach, IsMap, Reads, read_registers, register_widths};
 
@@ -122,7 +123,7 @@ fn pin_of(design: &Design, net: u32) -> Option<usize>
 
 fn pin_node(design: &Design, pin: usize, width: u32, builder: &mut Builder) -> Result<u32, NoMemory>
     requires width { IsWidth width }
-    requires there { slice_get (map (λ i. i.width) (input_wires design.now)) pin ≡ Some width }
+    requires there { slice_get (map (λ i. i.width) (input_pins design.now)) pin ≡ Some width }
     ensures { IfOk result (λ node. Means design.now builder.old builder.new node width (λ s. get_or s.inputs.row pin (word width 0))) }
 {
     let pin = number(pin)?;

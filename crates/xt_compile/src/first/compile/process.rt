@@ -6,7 +6,8 @@ ghost use Rattle.el_design.specs.Plain.{Assign, ToVariable};
 ghost use Rattle.el_design.specs.View.{expr_of, statement_of};
 ghost use Rattle.nt_core.specs.Conditions.{Drive};
 ghost use Rattle.nt_core.specs.NodeValue.{node_value};
-ghost use Rattle.xt_compile.specs.first.Form.{IsSumOf, IsStatement, no_place, var_widths, net_widths};
+ghost use Rattle.el_design.specs.Names.{no_place};
+ghost use Rattle.xt_compile.specs.first.Form.{IsSumOf, IsStatement, var_widths, net_widths};
 ghost use Rattle.xt_compile.specs.first.Machine.{is_wait, before, statements_of};
 ghost use Rattle.xt_compile.specs.first.Nodes.{Means, Assigns, Steps, HasWidth, IsMap, run_from, waits, state_width};
 

@@ -2,13 +2,16 @@
 ghost use Rattle.std.specs.Prelude.{◌≡◌, ◌<◌, ◌∷◌, ◌++◌, [], map, length, IfOk, All};
 ghost use Rattle.xt_bits.specs.Word.{word, IsKept};
 ghost use Rattle.nt_core.specs.Conditions.{IsNumbered};
-ghost use Rattle.xt_compile.specs.first.Form.{IsOfForm, IsThere, net_at, source_width, wire, input_wires, output_wires};
+ghost use Rattle.el_design.specs.Run.{net_width};
+ghost use Rattle.el_design.specs.View.{flat_of};
+ghost use Rattle.xt_compile.specs.Hardware.{pin, net_name, shown_width, input_pins, output_pins};
+ghost use Rattle.xt_compile.specs.first.Form.{IsOfForm, IsThere};
 ghost use Rattle.xt_compile.specs.first.Nodes.{IsShown, node_shown, state_width};
 
 use crate::first::compile::expression::ValueMap;
 use crate::first::compile::process::STATE_WIDTH;
 use crate::first::counts::numbered;
-use el_design::{Design, Net, Source};
+use el_design::{Design, Source};
 use nt_core::Wire;
 use std::alloc::Global;
 use xt_base::{Item, MAX_WIDTH, Name, NoMemory};
@@ -17,13 +20,12 @@ use xt_bits::Bits;
 /// The input pins.
 pub fn input_pins(alloc: Global, design: &Design) -> Result<Vec<Wire>, NoMemory>
     requires { IsOfForm design.now }
-    ensures pins { IfOk result (λ wires. wires.items ≡ input_wires design.now) }
+    ensures pins { IfOk result (λ wires. wires.items ≡ input_pins design.now) }
     ensures few { IfOk result (λ wires. IsNumbered wires.items) }
 {
     let mut wires = Vec::new(alloc);
     for number in design.inputs.as_slice() {
-        let net = net_at(design, *number);
-        wires.push(pin(alloc, &net.name, net.width)?)?;
+        wires.push(net_pin(alloc, design, *number)?)?;
     }
     numbered(wires.len())?;
     Ok(wires)
@@ -32,12 +34,12 @@ pub fn input_pins(alloc: Global, design: &Design) -> Result<Vec<Wire>, NoMemory>
 /// The output pins.
 pub fn output_pins(alloc: Global, design: &Design) -> Result<Vec<Wire>, NoMemory>
     requires { IsOfForm design.now }
-    ensures pins { IfOk result (λ wires. wires.items ≡ output_wires design.now) }
+    ensures pins { IfOk result (λ wires. wires.items ≡ output_pins design.now) }
     ensures few { IfOk result (λ wires. IsNumbered wires.items) }
 {
     let mut wires = Vec::new(alloc);
     for shown in design.outputs.as_slice() {
-        let width = source_width(design, shown.from);
+        let width = shown_width(design, shown.from);
         wires.push(pin(alloc, &shown.name, width)?)?;
     }
     numbered(wires.len())?;
@@ -45,7 +47,7 @@ pub fn output_pins(alloc: Global, design: &Design) -> Result<Vec<Wire>, NoMemory
 }
 
 fn pin(alloc: Global, name: &Name, width: u32) -> Result<Wire, NoMemory>
-    ensures { IfOk result (λ pin. pin ≡ wire name.now width) }
+    ensures { IfOk result (λ wire. wire ≡ pin name.now width) }
 {
     Ok(Wire {
         name: Name::new(alloc, name.as_str())?,
@@ -53,20 +55,22 @@ fn pin(alloc: Global, name: &Name, width: u32) -> Result<Wire, NoMemory>
     })
 }
 
-fn net_at(design: &Design, net: u32) -> &Net
+/// The pin of a net.
+fn net_pin(alloc: Global, design: &Design, net: u32) -> Result<Wire, NoMemory>
     requires { net < length design.now.nets }
-    ensures { result.now ≡ net_at design.now net }
+    ensures { IfOk result (λ wire. wire ≡ pin (net_name design.now net) (net_width (flat_of design.now) net)) }
 {
-    &design.nets.as_slice()[net as usize]
+    let net = &design.nets.as_slice()[net as usize];
+    pin(alloc, &net.name, net.width)
 }
 
-fn source_width(design: &Design, source: Source) -> u32
+fn shown_width(design: &Design, source: Source) -> u32
     requires { IsThere design.now source }
-    ensures { result ≡ source_width design.now source }
+    ensures { result ≡ shown_width (flat_of design.now) source }
 {
     match source {
         Source::Var(var) => design.vars.as_slice()[var as usize].width,
-        Source::Net(net) => net_at(design, net).width,
+        Source::Net(net) => design.nets.as_slice()[net as usize].width,
     }
 }
 

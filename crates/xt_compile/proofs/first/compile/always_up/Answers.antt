@@ -1,7 +1,7 @@
 use Rattle.std.proofs.Common.{ap}
 use Rattle.xt_bits.specs.Word.{Word}
-use Rattle.xt_compile.proofs.Growing.{added_means}
-use Rattle.xt_compile.proofs.Sums.{if_ok}
+use Rattle.xt_compile.proofs.first_form.Growing.{added_means}
+use Rattle.xt_compile.proofs.first_form.Sums.{if_ok}
 use Rattle.xt_compile.proofs.first.compile.always_up.Goals as goal
 
 pub returns : goal.returns

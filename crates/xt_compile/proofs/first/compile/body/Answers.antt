@@ -4,8 +4,8 @@ use Rattle.el_design.specs.declared.statements.Stmt.{Stmt}
 use Rattle.el_design.specs.View.{statement_of, flat_of}
 use Rattle.xt_compile.specs.first.Form.{IsStatement, var_widths, net_widths}
 use Rattle.xt_compile.specs.first.Machine.{HasBody, statements_of}
-use Rattle.xt_compile.proofs.OfForm.{body_statements}
-use Rattle.xt_compile.proofs.Shapes.{has_body}
+use Rattle.xt_compile.proofs.first_form.OfForm.{body_statements}
+use Rattle.xt_compile.proofs.first_form.Shapes.{has_body}
 use Rattle.xt_compile.proofs.first.compile.body.Goals as goal
 
 pub returns-in-Block-clause-statements : goal.returns-in-Block-clause-statements

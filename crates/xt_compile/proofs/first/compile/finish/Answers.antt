@@ -1,10 +1,10 @@
 use Rattle.std.proofs.Common.{refl, ap, ◌∙◌}
 use Rattle.nt_core.specs.Parts.{Parts}
-use Rattle.xt_compile.proofs.Shells.{shell_of_form}
+use Rattle.xt_compile.proofs.first_form.Shells.{shell_of_form}
 use Rattle.xt_compile.proofs.first.compile.finish.Goals as goal
 
-pub finish-requires : goal.finish-requires
-finish-requires c =
+pub finish-netlist-requires : goal.finish-netlist-requires
+finish-netlist-requires c =
     shell_of_form c.args.design.now _ c.args.map.now c.args.edge c.requires.form
     (record {
       version = refl;
@@ -23,9 +23,9 @@ finish-requires c =
     })
     c.requires.nodes c.requires.map c.requires.edge c.in_ok-drives.ensures c.requires.nexts
 
-pub returns : goal.returns
-returns c =
-    let is = c.finish.ensures in
+pub returns-clause-built : goal.returns-clause-built
+returns-clause-built c =
+    let is = c.kept.ensures.same ∙ c.finish-netlist.ensures in
     record {
       with_nodes = ap (λ (n : Parts). n.nodes) is;
       outside = record {

@@ -1,7 +1,7 @@
 use Rattle.std.proofs.Common.{refl}
 use Rattle.std.proofs.lemmas.Str.{IsUtf8-from_ascii}
 use Rattle.vl_pre.proofs.InputLemmas.{utf8_is_ok}
-use Rattle.xt_compile.proofs.NameBytes.{pin_name_is_ascii, ok_part}
+use Rattle.xt_compile.proofs.first_form.NameBytes.{pin_name_is_ascii, ok_part}
 use Rattle.xt_compile.proofs.first.names.copy_of.Goals as goal
 
 pub unwrap-text-requires : goal.unwrap-text-requires

@@ -1,6 +1,6 @@
 -- no port so far has the name
 use Rattle.std.proofs.Common.{◌≡◌, drop}
-use Rattle.xt_compile.specs.first.Reading.{found, found_from}
+use Rattle.xt_compile.specs.first.Tree.{found, found_from}
 use Rattle.xt_compile.proofs.first.source.find.Given as goal
 
 abbrev pub invariant-loop-place : goal.invariant-loop-place

@@ -1,7 +1,7 @@
 use Rattle.std.proofs.Common.{rules}
 use Rattle.el_design.specs.declared.expressions.Kind.TheViews.{the_lemmas}
-use Rattle.xt_compile.proofs.Growing.{map_grows, added_means, width_grows, node_there}
-use Rattle.xt_compile.proofs.Sums.{if_ok, sum_num, sum_net, sum_var, sum_add, sum_same, num_value, net_means, var_means, add_means, means_same}
+use Rattle.xt_compile.proofs.first_form.Growing.{map_grows, added_means, width_grows, node_there}
+use Rattle.xt_compile.proofs.first_form.Sums.{if_ok, sum_num, sum_net, sum_var, sum_add, sum_same, num_value, net_means, var_means, add_means, means_same}
 use Rattle.xt_compile.proofs.first.compile.expression.+lower.Goals as goal
 
 pub net-requires : goal.net-requires

@@ -1,7 +1,7 @@
 use Rattle.el_design.specs.View.{flat_of}
-use Rattle.xt_compile.proofs.Maps.{pin_there, pin_found, pin_at, pin_nowhere}
-use Rattle.xt_compile.proofs.Growing.{means_as}
-use Rattle.xt_compile.proofs.Sums.{if_ok}
+use Rattle.xt_compile.proofs.first_form.Maps.{pin_there, pin_found, pin_at, pin_nowhere}
+use Rattle.xt_compile.proofs.first_form.Growing.{means_as}
+use Rattle.xt_compile.proofs.first_form.Sums.{if_ok}
 use Rattle.xt_compile.proofs.first.compile.map.net_node.Goals as goal
 
 pub pin_node-requires-clause-there : goal.pin_node-requires-clause-there

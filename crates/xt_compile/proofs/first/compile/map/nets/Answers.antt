@@ -4,7 +4,7 @@ use Rattle.el_design.specs.declared.designs.Net.{Net}
 use Rattle.el_design.specs.Queue.{pin_value}
 use Rattle.el_design.specs.View.{flat_of}
 use Rattle.xt_compile.specs.first.Form.{net_widths}
-use Rattle.xt_compile.proofs.Maps.{EachSoFar, each_none, each_more, each_all}
+use Rattle.xt_compile.proofs.first_form.Maps.{EachSoFar, each_none, each_more, each_all}
 use Rattle.xt_compile.proofs.first.compile.map.nets.Goals as goal
 
 pub loop-place-init : goal.loop-place-init

@@ -2,7 +2,7 @@
 use Rattle.el_design.specs.Queue.{pin_value}
 use Rattle.el_design.specs.View.{flat_of}
 use Rattle.xt_compile.specs.first.Form.{net_widths}
-use Rattle.xt_compile.proofs.Maps.{EachSoFar}
+use Rattle.xt_compile.proofs.first_form.Maps.{EachSoFar}
 use Rattle.xt_compile.proofs.first.compile.map.nets.Given as goal
 
 abbrev pub invariant-loop-place : goal.invariant-loop-place

@@ -2,8 +2,8 @@ use Rattle.std.proofs.Common.{ℕ, Some, refl, sym, ap, get_or, subst, ◌≡◌
 use Rattle.std.specs.Prelude.{slice_get}
 use Rattle.xt_bits.specs.Word.{word}
 use Rattle.xt_compile.specs.first.Nodes.{register_widths}
-use Rattle.xt_compile.proofs.Growing.{added_means}
-use Rattle.xt_compile.proofs.Sums.{if_ok}
+use Rattle.xt_compile.proofs.first_form.Growing.{added_means}
+use Rattle.xt_compile.proofs.first_form.Sums.{if_ok}
 use Rattle.xt_compile.proofs.first.compile.map.register.Goals as goal
 
 pub returns : goal.returns

@@ -1,6 +1,6 @@
 use Rattle.std.proofs.Common.{◌∙◌}
 use Rattle.xt_compile.specs.first.Form.{var_widths}
-use Rattle.xt_compile.proofs.Growing.{drive_grows, values_grow}
+use Rattle.xt_compile.proofs.first_form.Growing.{drive_grows, values_grow}
 use Rattle.xt_compile.proofs.first.compile.map.value_map.Goals as goal
 
 pub returns-clause-map : goal.returns-clause-map

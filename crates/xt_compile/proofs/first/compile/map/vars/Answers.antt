@@ -3,7 +3,7 @@ use Rattle.std.proofs.lemmas.List.{length-map}
 use Rattle.xt_bits.specs.Word.{word}
 use Rattle.el_design.specs.declared.designs.Var.{Var}
 use Rattle.xt_compile.specs.first.Form.{var_widths}
-use Rattle.xt_compile.proofs.Maps.{EachSoFar, each_none, each_more, each_all}
+use Rattle.xt_compile.proofs.first_form.Maps.{EachSoFar, each_none, each_more, each_all}
 use Rattle.xt_compile.proofs.first.compile.map.vars.Goals as goal
 
 pub loop-place-init : goal.loop-place-init

@@ -2,7 +2,7 @@
 use Rattle.std.proofs.Common.{get_or}
 use Rattle.xt_bits.specs.Word.{word}
 use Rattle.xt_compile.specs.first.Form.{var_widths}
-use Rattle.xt_compile.proofs.Maps.{EachSoFar}
+use Rattle.xt_compile.proofs.first_form.Maps.{EachSoFar}
 use Rattle.xt_compile.proofs.first.compile.map.vars.Given as goal
 
 abbrev pub invariant-loop-place : goal.invariant-loop-place

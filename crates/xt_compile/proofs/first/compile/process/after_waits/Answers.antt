@@ -1,7 +1,7 @@
 use Rattle.std.proofs.Common.{List, sym, ◌∙◌, subst, arith}
 use Rattle.el_design.specs.Plain.{Statement}
-use Rattle.xt_compile.proofs.Growing.{width_grows, map_grows}
-use Rattle.xt_compile.proofs.Walks.{WalkedTo, walked_none, walked_wait, walked_assign, walked_all, walked_last, statements_more}
+use Rattle.xt_compile.proofs.first_form.Growing.{width_grows, map_grows}
+use Rattle.xt_compile.proofs.first_form.Walks.{WalkedTo, walked_none, walked_wait, walked_assign, walked_all, walked_last, statements_more}
 use Rattle.xt_compile.proofs.first.compile.process.after_waits.Goals as goal
 use Rattle.xt_compile.proofs.first.compile.process.after_waits.Goals.{then-is_wait+in_ok-point+in_ok-here-2, else-is_wait+in_ok-assign}
 

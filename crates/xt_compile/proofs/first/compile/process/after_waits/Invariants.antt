@@ -1,7 +1,7 @@
 -- the walk has come through the statements so far
 use Rattle.std.proofs.Common.{take}
 use Rattle.xt_compile.specs.first.Machine.{statements_of}
-use Rattle.xt_compile.proofs.Walks.{WalkedTo}
+use Rattle.xt_compile.proofs.first_form.Walks.{WalkedTo}
 use Rattle.xt_compile.proofs.first.compile.process.after_waits.Given as goal
 
 abbrev pub invariant-loop-statement : goal.invariant-loop-statement

@@ -3,7 +3,7 @@ use Rattle.el_design.specs.Plain.{Statement}
 use Rattle.el_design.specs.View.{statement_of}
 use Rattle.el_design.proofs.Equations.{assign_statement}
 use Rattle.xt_compile.specs.first.Form.{IsStatement, var_widths, net_widths}
-use Rattle.xt_compile.proofs.Shapes.{formal_target}
+use Rattle.xt_compile.proofs.first_form.Shapes.{formal_target}
 use Rattle.xt_compile.proofs.first.compile.process.assign.Goals as goal
 
 pub returns-in_default-to : goal.returns-in_default-to

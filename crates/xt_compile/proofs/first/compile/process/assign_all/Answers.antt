@@ -3,8 +3,8 @@ use Rattle.xt_bits.specs.Operators.{any_of}
 use Rattle.el_design.specs.Plain.{Statement}
 use Rattle.nt_core.specs.NodeValue.{node_value}
 use Rattle.xt_compile.specs.first.Nodes.{Assigns}
-use Rattle.xt_compile.proofs.Growing.{width_grows, map_grows}
-use Rattle.xt_compile.proofs.Walks.{assigned_none, assigned_more, statements_more, statements_all}
+use Rattle.xt_compile.proofs.first_form.Growing.{width_grows, map_grows}
+use Rattle.xt_compile.proofs.first_form.Walks.{assigned_none, assigned_more, statements_more, statements_all}
 use Rattle.xt_compile.proofs.first.compile.process.assign_all.Goals as goal
 
 pub loop-statement-init : goal.loop-statement-init

@@ -1,6 +1,6 @@
 use Rattle.std.proofs.Common.{refl}
-use Rattle.xt_compile.proofs.Growing.{added_means, alike, width_within}
-use Rattle.xt_compile.proofs.Sums.{if_ok}
+use Rattle.xt_compile.proofs.first_form.Growing.{added_means, alike, width_within}
+use Rattle.xt_compile.proofs.first_form.Sums.{if_ok}
 use Rattle.xt_compile.proofs.first.compile.process.choice.Goals as goal
 
 pub node-requires : goal.node-requires

@@ -1,8 +1,8 @@
 use Rattle.std.proofs.Common.{ap, ◌∙◌}
 use Rattle.xt_bits.specs.Word.{Word, word}
 use Rattle.xt_compile.specs.first.Nodes.{state_width}
-use Rattle.xt_compile.proofs.Growing.{added_means}
-use Rattle.xt_compile.proofs.Sums.{if_ok}
+use Rattle.xt_compile.proofs.first_form.Growing.{added_means}
+use Rattle.xt_compile.proofs.first_form.Sums.{if_ok}
 use Rattle.xt_compile.proofs.first.compile.process.constant.Goals as goal
 
 pub returns : goal.returns

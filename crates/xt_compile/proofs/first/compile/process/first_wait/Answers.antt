@@ -4,7 +4,7 @@ use Rattle.std.proofs.lemmas.Iterator.{YieldsList-from_slice}
 use Rattle.std.proofs.lemmas.Iterator.Search.{position_from_yields_List}
 use Rattle.el_design.specs.View.{statement_of}
 use Rattle.xt_compile.specs.first.Machine.{is_wait}
-use Rattle.xt_compile.proofs.Points.{first_place, place_within}
+use Rattle.xt_compile.proofs.first_form.Points.{first_place, place_within}
 use Rattle.xt_compile.proofs.first.compile.process.first_wait.Goals.{After-unwrap_or}
 use Rattle.xt_compile.proofs.first.compile.process.first_wait.Goals as goal
 

@@ -4,8 +4,8 @@ use Rattle.xt_bits.specs.Word.{Word, truth}
 use Rattle.xt_bits.proofs.Numbers.{mod_small}
 use Rattle.nt_core.specs.NodeValue.{node_value}
 use Rattle.xt_compile.specs.first.Nodes.{state_width}
-use Rattle.xt_compile.proofs.Growing.{added_means, alike, width_grows, value_grows, means_later}
-use Rattle.xt_compile.proofs.Sums.{if_ok}
+use Rattle.xt_compile.proofs.first_form.Growing.{added_means, alike, width_grows, value_grows, means_later}
+use Rattle.xt_compile.proofs.first_form.Sums.{if_ok}
 use Rattle.xt_compile.proofs.first.compile.process.is_at.Goals as goal
 
 pub node-requires : goal.node-requires

@@ -1,7 +1,7 @@
 use Rattle.xt_compile.specs.first.Nodes.{state_width}
-use Rattle.xt_compile.proofs.Growing.{width_grows}
-use Rattle.xt_compile.proofs.Sums.{if_ok}
-use Rattle.xt_compile.proofs.Walks.{means_next}
+use Rattle.xt_compile.proofs.first_form.Growing.{width_grows}
+use Rattle.xt_compile.proofs.first_form.Sums.{if_ok}
+use Rattle.xt_compile.proofs.first_form.Walks.{means_next}
 use Rattle.xt_compile.proofs.first.compile.process.next_point.Goals as goal
 
 pub plus-requires-clause-left : goal.plus-requires-clause-left

@@ -1,9 +1,9 @@
 use Rattle.std.proofs.Common.{◌<◌, length, arith}
 use Rattle.el_design.specs.View.{expr_of}
 use Rattle.xt_compile.specs.first.Form.{var_widths, net_widths}
-use Rattle.xt_compile.proofs.Growing.{width_grows, node_there}
-use Rattle.xt_compile.proofs.Nexts.{some_sum, next_width, next_node}
-use Rattle.xt_compile.proofs.Walks.{assigns_set}
+use Rattle.xt_compile.proofs.first_form.Growing.{width_grows, node_there}
+use Rattle.xt_compile.proofs.first_form.Nexts.{some_sum, next_width, next_node}
+use Rattle.xt_compile.proofs.first_form.Walks.{assigns_set}
 use Rattle.xt_compile.proofs.first.compile.process.set_next.Goals as goal
 
 pub lower-requires-clause-sum : goal.lower-requires-clause-sum

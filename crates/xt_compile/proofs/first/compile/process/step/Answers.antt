@@ -4,8 +4,8 @@ use Rattle.nt_core.specs.Conditions.{Drive}
 use Rattle.xt_compile.specs.first.Form.{var_widths}
 use Rattle.xt_compile.specs.first.Machine.{statements_of}
 use Rattle.xt_compile.specs.first.Nodes.{Steps}
-use Rattle.xt_compile.proofs.Growing.{width_grows, drive_grows, map_grows}
-use Rattle.xt_compile.proofs.Stepping.{stepped}
+use Rattle.xt_compile.proofs.first_form.Growing.{width_grows, drive_grows, map_grows}
+use Rattle.xt_compile.proofs.first_form.Stepping.{stepped}
 use Rattle.xt_compile.proofs.first.compile.process.step.Goals as goal
 
 pub after_waits-requires-clause-map : goal.after_waits-requires-clause-map

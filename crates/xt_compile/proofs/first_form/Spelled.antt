@@ -1,0 +1,10 @@
+-- Texts that compare as the same.
+use Rattle.std.proofs.Common.{◌≡◌, ℕ, List, true}
+use Rattle.std.specs.Prelude.{bytes_eq}
+use Rattle.std.proofs.lemmas.Slice.Eq.{bytes_eq-Decides}
+
+pub bytes_same : (a b : List ℕ) → bytes_eq a b ≡ true → a ≡ b
+bytes_same a b e = (bytes_eq-Decides a b).0 e
+
+pub same_bytes : (a b : List ℕ) → a ≡ b → bytes_eq a b ≡ true
+same_bytes a b e = (bytes_eq-Decides a b).1 e
