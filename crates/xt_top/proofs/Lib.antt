@@ -1,5 +1,10 @@
 pub mod Defines
-pub mod Judging
-pub mod Leaving
 pub mod Pieces
-pub mod Outcomes
+pub mod Judging
+pub mod Processes
+pub mod Judgement
+pub mod Verdict
+pub mod Finding
+pub mod Ending
+pub mod Whole
+pub mod Rows

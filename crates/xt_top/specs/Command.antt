@@ -4,15 +4,31 @@ use Rattle.std.specs.List.{list_all, position_or_len, before_first, after_first}
 use Rattle.xt_base.specs.Identifiers.{is_within, is_word}
 use Rattle.vl_pre.specs.Directives.{is_directive}
 use Rattle.xt_top.specs.declared.command.Command.{Command}
+use Rattle.xt_top.specs.declared.command.SourceWords as kept
 use Rattle.xt_top.specs.declared.command.Command.TheVariants.{Compile}
 
 -- a macro that is defined before the source is read: its name and its text
 abbrev pub Define : Type 0
 Define = List ℕ × List ℕ
 
+-- the words that name a source: its file, the module that is the top, the clock of its processes, and the macros that are defined before it
+pub record SourceWords : Type 0 where
+  pub file : List ℕ
+  pub top : List ℕ
+  pub clock : List ℕ
+  pub defines : List Define
+
 -- a command and its words
 pub data Request : Type 0 where
-  compile : (file top clock : List ℕ) → List Define → Request
+  compile : SourceWords → Request
+
+-- the source that a command takes, if it takes one
+abbrev pub source_of : Request → Option SourceWords
+source_of (compile source) = Some source
+
+-- the further files that a command takes, in the order of their loads
+abbrev pub files_of : Request → List (List ℕ)
+files_of (compile source) = []
 
 -- the sign between a macro's name and its text is `=`, 61
 abbrev pub is_equals : ℕ → Bool
@@ -50,26 +66,19 @@ abbrev pub defines_of : List (List ℕ) → Option (List Define)
 defines_of [] = Some []
 defines_of (word ∷ words) = option_and_then (λ define. option_map (λ defines. define ∷ defines) (defines_of words)) (define_of word)
 
+-- a source, from its words and the macros that further words define
+abbrev pub source_words : (file top clock : List ℕ) → List Define → SourceWords
+source_words file top clock defines = record { file = file; top = top; clock = clock; defines = defines }
+
 -- what the words ask for, if anything: `compile FILE TOP CLOCK [NAME=TEXT ..]`
 abbrev pub request_of : List (List ℕ) → Option Request
-request_of (word ∷ file ∷ top ∷ clock ∷ words) = if bytes_eq word (codes "compile") then option_map (compile file top clock) (defines_of words) else None
+request_of (word ∷ file ∷ top ∷ clock ∷ words) =
+    if bytes_eq word (codes "compile") then option_map (λ defines. compile (source_words file top clock defines)) (defines_of words) else None
 request_of _ = None
 
--- the same command, as the program keeps it
+-- the same source and the same command, as the program keeps them
+abbrev pub source_asked : kept.SourceWords → SourceWords
+source_asked s = source_words s.file.now s.top.now s.clock.now s.defines
+
 abbrev pub asked_by : Command → Request
-asked_by (Compile file top clock defines) = compile file.now top.now clock.now defines
-
--- the source that a command names
-abbrev pub file_of : Request → List ℕ
-file_of (compile file top clock defines) = file
-
--- the macros that it defines
-abbrev pub macros_of : Request → List Define
-macros_of (compile file top clock defines) = defines
-
--- the module that it compiles, and the clock
-abbrev pub top_of : Request → List ℕ
-top_of (compile file top clock defines) = top
-
-abbrev pub clock_of : Request → List ℕ
-clock_of (compile file top clock defines) = clock
+asked_by (Compile source) = compile (source_asked source)

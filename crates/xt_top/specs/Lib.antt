@@ -1,4 +1,9 @@
 pub mod Status
 pub mod Command
 pub mod Note
+pub mod Sources
+pub mod Loads
+pub mod Breaks
 pub mod Answer
+pub mod Ends
+pub mod inner

@@ -1,5 +1,5 @@
 -- The line that the program writes about a run that isn't done. It is this project's own.
-use Rattle.std.specs.Prelude.{ℕ, List, [], ◌∷◌, codes, decimal}
+use Rattle.std.specs.Prelude.{ℕ, List, [], ◌∷◌, codes, decimal, string_bytes}
 use Rattle.std.specs.List.{concat, flat_map}
 use Rattle.std.specs.Borrow.{Bor}
 use Rattle.xt_top.specs.declared.note.Note.{Note}
@@ -18,7 +18,7 @@ differs_line line = concat (codes "differs " ∷ decimal line ∷ codes "\n" ∷
 -- the line of a note
 abbrev pub line_of : Note → List ℕ
 line_of Usage = codes "usage\n"
-line_of (Refused rule file line) = refused_line rule.0 file.now line
+line_of (Refused rule file line) = refused_line rule.0 (string_bytes file) line
 line_of BadDesign = codes "bad design\n"
 line_of BadRecord = codes "bad record\n"
 line_of (Differs line) = differs_line line

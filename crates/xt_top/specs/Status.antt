@@ -1,5 +1,5 @@
 -- The numbers with which the program ends. They are this project's own.
-use Rattle.std.specs.Prelude.{ℕ, Bool, true, false}
+use Rattle.std.specs.Prelude.{ℕ}
 use Rattle.xt_top.specs.declared.status.Status.{Status}
 use Rattle.xt_top.specs.declared.status.Status.TheVariants.{Done, Memory, Usage, Refused, BadDesign, BadRecord, Differs, ReadFault, WriteFault}
 

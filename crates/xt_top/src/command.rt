@@ -2,7 +2,7 @@
 ghost use Rattle.std.specs.Prelude.{◌≡◌, ◌&&◌, IfOk, MatchOption, Some, None, drop};
 ghost use Rattle.std.specs.List.{list_all};
 ghost use Rattle.xt_base.specs.Identifiers.{is_within};
-ghost use Rattle.xt_top.specs.Command.{request_of, asked_by, file_of, macros_of, top_of, clock_of, define_of, defines_of, is_macro_name, is_macro_text, begins_comment, has_comment};
+ghost use Rattle.xt_top.specs.Command.{request_of, asked_by, define_of, defines_of, is_macro_name, is_macro_text, begins_comment, has_comment};
 
 use std::alloc::Global;
 use vl_pre::{Defines, is_directive};
@@ -11,16 +11,23 @@ use xt_base::{NoMemory, Words, is_word};
 /// The greatest length of the text of a macro that the words define, in bytes.
 const MAX_MACRO: usize = 256;
 
+/// The words that name a source.
+#[derive(Debug, Drop)]
+pub struct SourceWords<'a> {
+    pub file: &'a str,
+    /// The module that is the top.
+    pub top: &'a str,
+    /// The clock of the processes.
+    pub clock: &'a str,
+    /// The macros that are defined before the source is read.
+    pub defines: Defines,
+}
+
 /// What the program is asked to do.
 #[derive(Debug, Drop)]
 pub enum Command<'a> {
-    /// Compile the module `top` of a source, with the clock `clock` and with these macros defined, and write the design.
-    Compile {
-        file: &'a str,
-        top: &'a str,
-        clock: &'a str,
-        defines: Defines,
-    },
+    /// Compile a source, and write the design.
+    Compile(SourceWords<'a>),
 }
 
 impl<'a> Command<'a> {
@@ -37,47 +44,14 @@ impl<'a> Command<'a> {
         if word != "compile" {
             return Ok(None);
         }
-        Ok(defines_of(alloc, words)?.map(|defines| Command::Compile {
-            file,
-            top,
-            clock,
-            defines,
-        }))
-    }
-
-    /// The macros that are defined before it.
-    pub fn defines(&self) -> &Defines
-        ensures { result.now ≡ macros_of (asked_by self.now) }
-    {
-        match self {
-            Command::Compile { defines, .. } => defines,
-        }
-    }
-
-    /// The source that is to be compiled.
-    pub fn file(&self) -> &'a str
-        ensures { result.now ≡ file_of (asked_by self.now) }
-    {
-        match self {
-            Command::Compile { file, .. } => file,
-        }
-    }
-
-    /// The module that is to be compiled.
-    pub fn top(&self) -> &'a str
-        ensures { result.now ≡ top_of (asked_by self.now) }
-    {
-        match self {
-            Command::Compile { top, .. } => top,
-        }
-    }
-
-    /// The clock of its processes.
-    pub fn clock(&self) -> &'a str
-        ensures { result.now ≡ clock_of (asked_by self.now) }
-    {
-        match self {
-            Command::Compile { clock, .. } => clock,
+        match defines_of(alloc, words)? {
+            Some(defines) => Ok(Some(Command::Compile(SourceWords {
+                file,
+                top,
+                clock,
+                defines,
+            }))),
+            None => Ok(None),
         }
     }
 }

@@ -1,7 +1,8 @@
 //! The one line that the program writes about a run that isn't done.
 ghost use Rattle.std.specs.Prelude.{◌≡◌, ◌≤◌, ◌⊎◌};
 ghost use Rattle.xt_base.specs.Outside.{appended, HasFault, AppendsPrefix};
-ghost use Rattle.xt_top.specs.Answer.{on, Tells};
+ghost use Rattle.xt_top.specs.Ends.{stream};
+ghost use Rattle.xt_top.specs.inner.Works.{Tells};
 ghost use Rattle.xt_top.specs.Note.{line_of, status_of, refused_line, differs_line, joined};
 
 use crate::status::Status;
@@ -9,16 +10,12 @@ use itoa::Buffer;
 use xt_base::{Rule, Sink, Wrote};
 
 /// Why a run isn't done.
-#[derive(Clone, Copy, Debug)]
-pub enum Note<'a> {
+#[derive(Debug, Drop)]
+pub enum Note {
     /// The words are no command.
     Usage,
     /// The source breaks a rule, at a line of a file; line 0 stands for the file as a whole.
-    Refused {
-        rule: Rule,
-        file: &'a str,
-        line: u32,
-    },
+    Refused { rule: Rule, file: String, line: u32 },
     /// The design isn't well formed.
     BadDesign,
     /// The record isn't well formed.
@@ -29,10 +26,10 @@ pub enum Note<'a> {
     ReadFault,
 }
 
-impl Note<'_> {
+impl Note {
     /// Writes the note's line, and answers the status that it explains: WriteFault where the line couldn't be written.
     pub fn tell<S: Sink>(&self, notes: &mut S) -> Status
-        ensures tells { Tells (status_of self.now) (line_of self.now) (on (S.written notes.old) (S.faults notes.old)) (on (S.written notes.new) (S.faults notes.new)) result }
+        ensures tells { Tells (status_of self.now) (line_of self.now) (stream (S.written notes.old) (S.faults notes.old)) (stream (S.written notes.new) (S.faults notes.new)) result }
         ensures never_falls { S.faults notes.old ≤ S.faults notes.new }
     {
         match self.write(notes) {
@@ -63,7 +60,12 @@ impl Note<'_> {
     {
         match self {
             Note::Usage => notes.write(b"usage\n"),
-            Note::Refused { rule, file, line } => write_refused(rule.number(), file, *line, notes),
+            Note::Refused { rule, file, line } => write_refused(
+                rule.number(),
+                file.as_str(),
+                *line,
+                notes,
+            ),
             Note::BadDesign => notes.write(b"bad design\n"),
             Note::BadRecord => notes.write(b"bad record\n"),
             Note::Differs(line) => write_differs(*line, notes),
