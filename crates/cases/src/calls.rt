@@ -1,16 +1,13 @@
 //! The calls that cases are run over, each under the name of its folder.
-use crate::case_file::Case;
 use crate::designs::{prefixes, rewritten};
 use crate::evaluations::computed;
-use crate::expressions::expression;
 use crate::machines::run;
-use crate::modules::source;
 use crate::names::classes;
 use crate::numbers::value;
 use crate::operators::operator;
 use crate::programs::ended;
-use crate::stop::Stop;
-use crate::texts::{expanded, tokens};
+use case_file::{Case, Stop, expanded, tokens};
+use case_front::{expression, tree};
 use std::alloc::Global;
 
 /// What a call gives for a case.
@@ -22,7 +19,7 @@ pub fn answer(alloc: Global, call: &str, case: &Case) -> Result<String, Stop> {
         "expand" => expanded(alloc, case),
         "lex" => tokens(alloc, case),
         "expressions" => expression(alloc, case),
-        "parse" => source(alloc, case),
+        "parse" => tree(alloc, case),
         "designs" => rewritten(alloc, case),
         "prefixes" => prefixes(alloc, case),
         "evaluate" => computed(alloc, case),

@@ -1,7 +1,5 @@
 //! Written designs: read, and written again.
-use crate::case_file::Case;
-use crate::sources::{as_text, numbers};
-use crate::stop::Stop;
+use case_file::{Case, Stop, as_text, numbers};
 use nt_core::Netlist;
 use nt_read::{DesignFault, read};
 use nt_write::{WriteEnd, write};

@@ -1,11 +1,9 @@
 //! Designs that are computed plainly, node by node.
 ghost use Rattle.nt_core.specs.Fitting.{IsState};
 
-use crate::case_file::Case;
 use crate::designs::sound;
-use crate::sources::as_text;
 use crate::steps::{hexadecimals, put, zero_row};
-use crate::stop::Stop;
+use case_file::{Case, Stop, as_text};
 use nt_core::{Inputs, Netlist, State, evaluate, is_row, tick};
 use std::alloc::Global;
 use xt_base::Item;

@@ -1,11 +1,9 @@
 //! Designs that run on the machine, and that are computed plainly.
 ghost use Rattle.std.specs.Prelude.{◌≡◌, ◌<◌, map, length, IfOk};
 
-use crate::case_file::Case;
 use crate::designs::sound;
-use crate::sources::as_text;
 use crate::steps::{hexadecimals, pin, put, zero_row};
-use crate::stop::Stop;
+use case_file::{Case, Stop, as_text};
 use nt_core::{Netlist, is_row};
 use nt_run::{Acks, Runner, TickEnd};
 use std::alloc::Global;

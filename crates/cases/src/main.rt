@@ -6,26 +6,18 @@
 #![tactic(auto)]
 
 mod calls;
-mod case_file;
 mod designs;
 mod evaluations;
-mod expressions;
 mod machines;
-mod modules;
 mod names;
 mod numbers;
 mod operators;
 mod programs;
-mod sources;
-mod statements;
 mod steps;
-mod stop;
-mod texts;
 
-use case_file::{Case, cases_of};
+use case_file::{Case, Stop, cases_of};
 use std::alloc::Global;
 use std::process::ExitCode;
-use stop::Stop;
 use xt_base::{Files, HostFiles, HostSink, Load, Sink, Stream, Wrote};
 
 /// How many cases passed, and how many failed.

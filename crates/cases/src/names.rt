@@ -1,6 +1,5 @@
 //! Which classes of names a name is of.
-use crate::case_file::Case;
-use crate::stop::Stop;
+use case_file::{Case, Stop};
 use nt_core::is_pin_name;
 use std::alloc::Global;
 use vl_pre::is_directive;

@@ -1,6 +1,5 @@
 //! The values of numbers as they are written.
-use crate::case_file::Case;
-use crate::stop::Stop;
+use case_file::{Case, Stop};
 use std::alloc::Global;
 use vl_lex::{based_value, capped_value, wrapped_value};
 

@@ -1,9 +1,7 @@
 //! The operators on values, from rows such as `add 8'd200 8'd100 => 8'd44`.
 ghost use Rattle.std.specs.Prelude.{◌≡◌, ◌≤◌, IfSome};
 
-use crate::case_file::Case;
-use crate::sources::as_text;
-use crate::stop::Stop;
+use case_file::{Case, Stop, as_text};
 use std::alloc::Global;
 use xt_base::{Item, MAX_WIDTH};
 use xt_bits::Bits;

@@ -1,10 +1,7 @@
 //! Runs of the program, over files and streams in memory.
-use crate::case_file::Case;
 use crate::designs::netlist;
 use crate::machines::transcript;
-use crate::sources::{as_text, files, first_line, numbers};
-use crate::stop::Stop;
-use crate::texts::add_bytes;
+use case_file::{Case, Stop, add_bytes, as_text, files, first_line, numbers};
 use std::alloc::Global;
 use xt_base::{MemSink, Words};
 use xt_top::{Status, xtc};

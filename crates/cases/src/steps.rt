@@ -2,7 +2,7 @@
 //! seen. Values are hexadecimal.
 ghost use Rattle.std.specs.Prelude.{◌<◌, length, IfOk};
 
-use crate::stop::Stop;
+use case_file::Stop;
 use nt_core::{Netlist, Wire};
 use std::alloc::Global;
 use xt_base::{Item, MAX_WIDTH};

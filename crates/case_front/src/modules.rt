@@ -1,10 +1,7 @@
 //! The trees of sources, shown in one line.
-use crate::case_file::Case;
 use crate::expressions::{Source, add_word, levels};
-use crate::sources::text;
 use crate::statements::show;
-use crate::stop::Stop;
-use crate::texts::failed;
+use case_file::{Case, Stop, failed, text};
 use std::alloc::Global;
 use vl_lex::lex;
 use vl_parse::parse;
@@ -14,7 +11,7 @@ use vl_tree::{Args, Dir, Direction, Fdir, Item, Module, Pdecl, Port, Tree};
 ///
 /// Of lists of parameters, ports and formals it shows the leading words: `p`, `i`, `o` and `r` for `output reg`, and `-`
 /// where those before hold. Of other declarations it shows how many names they have.
-pub fn source(alloc: Global, case: &Case) -> Result<String, Stop> {
+pub fn tree(alloc: Global, case: &Case) -> Result<String, Stop> {
     let text = text(alloc, case)?;
     let levels = levels(alloc, case, "levels")?;
     let tokens = match lex(alloc, &text) {

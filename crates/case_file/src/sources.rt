@@ -1,5 +1,5 @@
 //! What a case gives to a call: files, defines and texts.
-use crate::case_file::Case;
+use crate::fields::Case;
 use crate::stop::Stop;
 use std::alloc::Global;
 use vl_pre::{Defines, PreFault, Text, expand};

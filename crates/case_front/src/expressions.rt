@@ -1,8 +1,5 @@
 //! The trees of expressions, shown in one line.
-use crate::case_file::Case;
-use crate::sources::{numbers, text};
-use crate::stop::Stop;
-use crate::texts::{add_token, failed};
+use case_file::{Case, Stop, add_token, failed, numbers, text};
 use std::alloc::Global;
 use vl_expr::parse_expr;
 use vl_lex::{Token, lex};

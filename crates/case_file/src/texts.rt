@@ -1,5 +1,5 @@
 //! Expanded texts with their places, and tokens.
-use crate::case_file::Case;
+use crate::fields::Case;
 use crate::sources::{expansion, files, text};
 use crate::stop::Stop;
 use std::alloc::Global;

@@ -1,6 +1,6 @@
 //! Statements, shown in one line.
 use crate::expressions::{DEPTH, Source, add_word, show as show_expression};
-use crate::stop::Stop;
+use case_file::Stop;
 use vl_tree::{Citem, Expr, Stmt};
 
 /// Adds the right side of an assignment, if an operator stands in it.

@@ -1,5 +1,5 @@
 use Rattle.std.proofs.Common.{◌*◌, ◌+◌}
-use Rattle.cases.proofs.expressions.+show.Given as goal
+use Rattle.case_front.proofs.expressions.+show.Given as goal
 
 abbrev pub decreases-show : goal.decreases-show
 decreases-show l = 4 * l.levels
