@@ -4,4 +4,6 @@ pub mod Climbs
 pub mod Breaks
 pub mod Nested
 pub mod Rows
-pub mod Equations
+pub mod KindRows
+pub mod Connections
+pub mod ConnectingRows

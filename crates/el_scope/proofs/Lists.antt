@@ -27,3 +27,9 @@ one_put f d xs new x n count e h each i lt = ap (λ ys. slice_index_or ys i d) e
     go : (b : Bool) → nat_lt i n ≡ b → slice_index_or (xs ++ x ∷ []) i d ≡ f i
     go true k = get_or_append_left xs (x ∷ []) d i (grind (arith, k, count)) ∙ each i (grind (arith, k))
     go false k = let same : n ≡ i = grind (arith, k, lt) in get_or_push xs x d i (count ∙ same) ∙ h ∙ ap f same
+
+pub one_more : {X : Type 0} (xs : List X) (x : X) (b : List X) → (xs ++ (x ∷ [])) ++ b ≡ xs ++ (x ∷ b)
+one_more xs x b = two xs (x ∷ []) b
+
+pub chain : {X : Type 0} (old mid new a b c : List X) → new ≡ mid ++ c → mid ≡ old ++ a → c ≡ b → new ≡ old ++ (a ++ b)
+chain old mid new a b c k h e = k ∙ ap (λ x. x ++ c) h ∙ two old a c ∙ ap (λ x. old ++ (a ++ x)) e

@@ -1,5 +1,5 @@
 -- Maps that are added to at their ends.
-use Rattle.std.proofs.Common.{◌≡◌, ◌++◌, ◌+◌, ◌<◌, length, drop, ℕ, Bool, true, false, cond, List, [], ◌∷◌, Option, Some, None, refl, sym, ap, ◌∙◌, is_some, true≢false}
+use Rattle.std.proofs.Common.{◌≡◌, ◌++◌, ◌+◌, ◌<◌, length, map, drop, ℕ, Bool, true, false, cond, List, [], ◌∷◌, Option, Some, None, refl, sym, ap, ◌∙◌, is_some, true≢false}
 use Rattle.std.specs.Prelude.{slice_index_or}
 use Rattle.std.specs.Option.{option_or}
 use Rattle.std.specs.List.{find}
@@ -46,3 +46,16 @@ one_noted {X = X} p xs i x all old new noted lt e h k n =
 pub nothing_left : {X : Type 0} (o : Option X) → option_or o None ≡ o
 nothing_left None = refl
 nothing_left (Some x) = refl
+
+-- the same where what is noted is made of the items of a list
+pub one_made : {X Y : Type 0} (f : Y → X) (p : X → Bool) (ys : List Y) (i : ℕ) (y : Y) (x : X) (all old new : Option X) (noted : Bool) → i < length ys → y ≡ slice_index_or ys i y → x ≡ f y
+    → all ≡ option_or old (find p (map f (drop i ys))) → noted ≡ p x → new ≡ option_or old (cond noted (Some x) None) → all ≡ option_or new (find p (map f (drop (i + 1) ys)))
+one_made {X = X} f p ys i y x all old new noted lt e m h k n =
+    h ∙ ap (option_or old) (at_drop_more (λ zs. find p (map f zs)) ys i y lt ∙ ap (λ z. find p (f z ∷ map f (drop (i + 1) ys))) (sym e) ∙ ap (λ z. find p (z ∷ map f (drop (i + 1) ys))) (sym m))
+    ∙ go old (p x) ∙ ap (λ b. option_or (option_or old (cond b (Some x) None)) (find p (map f (drop (i + 1) ys)))) (sym k)
+    ∙ ap (λ o. option_or o (find p (map f (drop (i + 1) ys)))) (sym n)
+  where
+    go : (o : Option X) (b : Bool) → option_or o (cond b (Some x) (find p (map f (drop (i + 1) ys)))) ≡ option_or (option_or o (cond b (Some x) None)) (find p (map f (drop (i + 1) ys)))
+    go None true = refl
+    go None false = refl
+    go (Some z) b = refl

@@ -18,14 +18,14 @@ use Rattle.vl_tree.specs.declared.routines.Local.TheVariants as local
 use Rattle.vl_tree.specs.declared.statements.Scope.{Scope}
 use Rattle.vl_tree.specs.declared.statements.Stmt.{Stmt}
 use Rattle.vl_tree.specs.declared.statements.Stmt.TheVariants as stmt
-use Rattle.el_scope.specs.Declarations.{inner, stmt_declares, tree_declares, definitions}
+use Rattle.vl_names.specs.Declarations.{inner, stmt_declares, tree_declares, definitions}
 use Rattle.el_scope.specs.Declaring.{declaration_breaks}
 use Rattle.el_scope.specs.Lookup.{resolve}
 use Rattle.el_scope.specs.Nesting.{scope_at}
 use Rattle.el_scope.specs.Table.{SymbolTable}
-use Rattle.el_scope.specs.declared.kinds.Declaration.{Declaration}
-use Rattle.el_scope.specs.declared.kinds.EntityKind.TheVariants as kind
-use Rattle.el_scope.proofs.Equations.{blocking_declares, block_declares, named_block_declares}
+use Rattle.vl_names.specs.declared.kinds.Declaration.{Declaration}
+use Rattle.vl_names.specs.declared.kinds.EntityKind.TheVariants as kind
+use Rattle.vl_names.proofs.Equations.{blocking_declares, block_declares, named_block_declares}
 
 abbrev line : ℕ → Place
 line n = record { file = 0; line = n; instance = 0 }
@@ -35,13 +35,13 @@ abbrev lines : ℕ → List Place
 lines zero = []
 lines (suc n) = lines n ++ line n ∷ []
 
-abbrev table_of : List (List ℕ) → List Declaration → SymbolTable
+abbrev pub table_of : List (List ℕ) → List Declaration → SymbolTable
 table_of words ds = record { files = codes "f" ∷ []; names = words; places = lines (length words); declarations = ds }
 
 abbrev table : List (List ℕ) → List Module → SymbolTable
 table words modules = table_of words (tree_declares (record { modules = modules }))
 
-abbrev breaks : ℕ → ℕ → Refusal
+abbrev pub breaks : ℕ → ℕ → Refusal
 breaks rule token = record { rule = record { 0 = rule }; place = record { file = 0; line = token; instance = 0 } }
 
 -- where a name is declared that stands in a scope
@@ -153,7 +153,7 @@ function_declares : tree_declares (record { modules = function_module ∷ [] }) 
 function_declares =
     ap (λ ds. inner kind.Module 1 definitions false ∷ inner kind.Var 4 1 false ∷ inner kind.Function 7 1 false ∷ inner kind.Var 10 7 false ∷ (ds ++ []) ++ []) body_declares
 
-abbrev one_function : List ℕ → SymbolTable
+abbrev pub one_function : List ℕ → SymbolTable
 one_function formal = table_of
     (codes "module" ∷ codes "m" ∷ codes ";" ∷ codes "reg" ∷ codes "x" ∷ codes ";" ∷ codes "function" ∷ codes "f" ∷ codes ";" ∷
     codes "input" ∷ formal ∷ codes ";" ∷ codes "begin" ∷ codes "begin" ∷ codes ":" ∷ codes "b" ∷ codes "reg" ∷ codes "x" ∷ codes ";" ∷

@@ -2,7 +2,7 @@
 -- 12.7), and 37, a declared name begins with `xtc_`, which this project keeps for what it adds to a design.
 use Rattle.std.specs.Prelude.{ℕ, ◌==◌, not, Bool, false, List, ◌++◌, Option, Some, None, map, take, codes, bytes_eq, flat_map}
 use Rattle.xt_base.specs.declared.refusals.Refusal.{Refusal}
-use Rattle.el_scope.specs.declared.kinds.Declaration.{Declaration}
+use Rattle.vl_names.specs.declared.kinds.Declaration.{Declaration}
 use Rattle.el_scope.specs.Table.{SymbolTable, spelled, break_at, only_if}
 use Rattle.el_scope.specs.Lookup.{declared_in}
 

@@ -1,7 +1,11 @@
-pub mod Declarations
 pub mod Table
 pub mod Lookup
 pub mod Declaring
 pub mod Nesting
+pub mod Kinds
+pub mod Naming
+pub mod Connecting
+pub mod Driving
+pub mod Passes
 pub mod Refusals
 pub mod inner

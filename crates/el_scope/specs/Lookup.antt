@@ -3,7 +3,7 @@
 use Rattle.std.specs.Prelude.{ℕ, zero, suc, ◌==◌, ◌&&◌, Bool, List, [], ◌∷◌, Option, None, length, bytes_eq}
 use Rattle.std.specs.Option.{option_or, option_map_or}
 use Rattle.std.specs.List.{find}
-use Rattle.el_scope.specs.declared.kinds.Declaration.{Declaration}
+use Rattle.vl_names.specs.declared.kinds.Declaration.{Declaration}
 use Rattle.el_scope.specs.Table.{SymbolTable, spelled}
 
 -- a declaration is that of this name in this scope

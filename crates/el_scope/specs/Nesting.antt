@@ -2,8 +2,8 @@
 -- block opens its scope behind its name, and its end word closes it.
 use Rattle.std.specs.Prelude.{ℕ, zero, suc, ◌+◌, ◌-◌, ◌&&◌, ◌||◌, not, Bool, true, false, List, [], ◌∷◌, ◌++◌, Option, codes, length, take, slice_get, if◌then◌else◌}
 use Rattle.std.specs.Option.{option_map_or}
-use Rattle.el_scope.specs.declared.kinds.EntityKind.{EntityKind}
-use Rattle.el_scope.specs.declared.kinds.EntityKind.TheVariants as kind
+use Rattle.vl_names.specs.declared.kinds.EntityKind.{EntityKind}
+use Rattle.vl_names.specs.declared.kinds.EntityKind.TheVariants as kind
 use Rattle.el_scope.specs.Table.{SymbolTable, spells}
 use Rattle.el_scope.specs.Lookup.{declared_at}
 

@@ -6,8 +6,8 @@ use Rattle.vl_lex.specs.declared.kinds.Token.{Token}
 use Rattle.vl_lex.specs.Views.{spellings_of, places_of}
 use Rattle.vl_pre.specs.Text.{Expanded}
 use Rattle.vl_tree.specs.declared.modules.Tree.{Tree}
-use Rattle.el_scope.specs.declared.kinds.Declaration.{Declaration}
-use Rattle.el_scope.specs.Declarations.{tree_declares}
+use Rattle.vl_names.specs.declared.kinds.Declaration.{Declaration}
+use Rattle.vl_names.specs.Declarations.{tree_declares}
 
 -- the files that places name, what each token spells, where it stands, and all declarations in the order of the text
 pub record SymbolTable : Type 0 where

@@ -6,8 +6,8 @@ ghost use Rattle.el_scope.specs.Declaring.{is_second, is_kept, declaring_rules, 
 ghost use Rattle.el_scope.specs.Refusals.{Refuses};
 
 use crate::findings::Findings;
-use crate::kinds::Declaration;
 use crate::table::Table;
+use vl_names::Declaration;
 use xt_base::Fail;
 
 /// Whether the name of a declaration is declared before in its scope.

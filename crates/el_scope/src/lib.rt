@@ -1,14 +1,15 @@
-//! The names of a source: which are declared, in which scope, and what each name stands for.
+//! The names of a source: what each name stands for, and the rules of refusal on names.
 #![tactic(auto)]
 
-mod declare;
+mod connecting;
 mod declaring;
+mod driving;
 mod findings;
-mod kinds;
+mod naming;
 mod nesting;
+mod passes;
+mod reached;
 mod scopes;
 mod table;
 
-pub use declare::DEFINITIONS;
-pub use kinds::{Declaration, Entity, EntityKind, Role, Selects, Side, Stand};
 pub use scopes::Scopes;

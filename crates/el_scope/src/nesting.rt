@@ -3,9 +3,9 @@ ghost use Rattle.std.specs.Prelude.{◌≡◌, ◌+◌, ◌≤◌, ◌<◌, ℕ,
 ghost use Rattle.el_scope.specs.Nesting.{has_scope, names_scope, begins_unnamed, is_end, without_last, with_last_again, last_of, open_behind, open_at, scope_at};
 ghost use Rattle.el_scope.specs.inner.Maps.{AreScopes};
 
-use crate::kinds::EntityKind;
 use crate::table::Table;
 use std::alloc::Global;
+use vl_names::EntityKind;
 use xt_base::NoMemory;
 
 /// Whether what is declared so has a scope.

@@ -6,15 +6,17 @@ ghost use Rattle.el_scope.specs.Table.{table_of};
 ghost use Rattle.el_scope.specs.Lookup.{resolve};
 ghost use Rattle.el_scope.specs.Declaring.{declaration_breaks};
 ghost use Rattle.el_scope.specs.Nesting.{scope_at};
+ghost use Rattle.el_scope.specs.Passes.{name_breaks};
 ghost use Rattle.el_scope.specs.Refusals.{Refuses};
 
 use crate::declaring::check_declarations;
-use crate::kinds::Entity;
 use crate::nesting::scopes;
+use crate::passes::check_names;
 use crate::table::Table;
 use std::alloc::Global;
 use std::marker::Model;
 use vl_lex::Tokens;
+use vl_names::Entity;
 use vl_pre::Text;
 use vl_tree::Tree;
 use xt_base::Fail;
@@ -58,6 +60,16 @@ impl<'a> Scopes<'a> {
         check_declarations(&table)?;
         let scopes = scopes(alloc, &table)?;
         Ok(Scopes { table, scopes })
+    }
+
+    /// The rules on names, asked of the tree of these scopes: Ok, or the first break. 30, a name stands for nothing, or a constant
+    /// expression of a declaration names a parameter that isn't declared before it; 33, a name is of a kind that may not stand there: both
+    /// at the name. 34, a connection or override reaches nothing, stands there twice or connects an output to anything but a whole net: at
+    /// the connection. 38, a net has a second driver: at the second.
+    pub fn check(&self, alloc: Global, tree: &Tree) -> Result<(), Fail>
+        ensures exact { MatchResult result (λ _. name_breaks self.now tree.now ≡ []) (Refuses self.now (name_breaks self.now tree.now)) }
+    {
+        check_names(alloc, &self.table, tree)
     }
 
     /// The innermost scope in which a token stands: the token of the name of a module, task, function or block. What follows the name in

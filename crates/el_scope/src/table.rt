@@ -1,20 +1,19 @@
 //! The symbol table of a source: its declarations, found by scope and name, and by token.
 ghost use Rattle.std.specs.Prelude.{◌≡◌, ◌<◌, ◌++◌, ◌∷◌, ◌&&◌, ◌==◌, [], ℕ, List, Some, None, OnOk, IfOk, slice_index_or, bytes_eq, length, cond, option_copied};
 ghost use Rattle.std.specs.Option.{option_or};
-ghost use Rattle.std.specs.List.{find};
+ghost use Rattle.std.specs.List.{find, list_any};
 ghost use Rattle.vl_lex.specs.Tokens.{AreSpans};
 ghost use Rattle.vl_lex.specs.Views.{spellings_of, places_of};
-ghost use Rattle.el_scope.specs.Declarations.{definitions};
+ghost use Rattle.vl_names.specs.Declarations.{definitions};
 ghost use Rattle.el_scope.specs.Table.{spelled, spells, table_with, table_of, no_place};
 ghost use Rattle.el_scope.specs.Lookup.{declared_in, declared_at, outwards, scopes_round, innermost, resolve};
 ghost use Rattle.el_scope.specs.inner.Maps.{named, at_token, AllNamed, AllAt};
 
-use crate::declare::declarations;
-use crate::kinds::Declaration;
 use indexmap::IndexMap;
 use std::alloc::Global;
 use std::marker::Model;
 use vl_lex::{Tokens, place_at, spelling};
+use vl_names::{Declaration, declarations};
 use vl_pre::Text;
 use vl_tree::Tree;
 use xt_base::{NoMemory, Place};
@@ -22,8 +21,8 @@ use xt_base::{NoMemory, Place};
 /// A name in a scope.
 #[derive(Clone, Copy, Debug, PartialEq, Eq, Hash)]
 pub(crate) struct Key<'a> {
-    scope: u32,
-    name: &'a [u8],
+    pub(crate) scope: u32,
+    pub(crate) name: &'a [u8],
 }
 
 /// What the token with this number spells; nothing where there is none.
@@ -218,5 +217,22 @@ impl<'a> Table<'a> {
             }
         }
         None
+    }
+
+    /// Whether a scope is this one or one round it.
+    pub(crate) fn is_round(&self, outer: u32, scope: u32) -> bool
+        ensures { result ≡ list_any (λ o. o == outer) (scopes_round self.now scope) }
+    {
+        let mut here = scope;
+        for _ in 0..self.declarations.len() + 1 {
+            if here == outer {
+                return true;
+            }
+            match self.declared_at(here) {
+                Some(around) => here = around.entity.scope,
+                None => return false,
+            }
+        }
+        false
     }
 }

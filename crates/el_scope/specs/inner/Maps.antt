@@ -1,18 +1,18 @@
 -- The maps of a symbol table. All of it is this project's own.
 use Rattle.std.specs.Prelude.{◌≡◌, ◌<◌, ℕ, ◌==◌, ◌&&◌, List, Option, None, bytes_eq, length, slice_index_or}
 use Rattle.std.specs.Map.{lookup}
-use Rattle.el_scope.specs.declared.kinds.Declaration.{Declaration}
+use Rattle.vl_names.specs.declared.kinds.Declaration.{Declaration}
 use Rattle.el_scope.specs.declared.table.Key.{Key}
 use Rattle.el_scope.specs.Table.{SymbolTable}
 use Rattle.el_scope.specs.Lookup.{declared_in, declared_at}
 use Rattle.el_scope.specs.Nesting.{scope_at}
 
 -- what a map knows of a name in a scope
-abbrev pub named : List (Key × Declaration) → ℕ → List ℕ → Option Declaration
+abbrev pub named : {X : Type 0} → List (Key × X) → ℕ → List ℕ → Option X
 named known scope word = lookup (λ k. scope == k.scope && bytes_eq word k.name.now) known
 
 -- what a map knows of a token
-abbrev pub at_token : List (ℕ × Declaration) → ℕ → Option Declaration
+abbrev pub at_token : {X : Type 0} → List (ℕ × X) → ℕ → Option X
 at_token known at = lookup (λ k. at == k) known
 
 -- a map knows the names of a table

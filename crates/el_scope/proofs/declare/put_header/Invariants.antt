@@ -1,7 +1,0 @@
--- what is there with what is left is what was there with all
-use Rattle.std.proofs.Common.{◌≡◌, ◌++◌, drop}
-use Rattle.el_scope.specs.Declarations.{header_declares}
-use Rattle.el_scope.proofs.declare.put_header.Given as goal
-
-abbrev pub invariant-loop-param : goal.invariant-loop-param
-invariant-loop-param l = l.fn.into.items ++ header_declares l.scope l.params ≡ l.into.items ++ header_declares l.scope (drop l.param-index l.params)

@@ -1,7 +1,0 @@
-use Rattle.std.proofs.Common.{rules}
-use Rattle.el_scope.specs.Declarations.{module_declares}
-use Rattle.el_scope.proofs.Lists.{one_done}
-use Rattle.el_scope.proofs.declare.put_modules.Goals as goal
-
-pub loop-module-preserved : goal.loop-module-preserved
-loop-module-preserved c = one_done module_declares c.args.modules.now c.loop-module.module-index c.module-item.result _ _ _ (search rules) (search rules) c.loop-module.invariant c.in_ok-put_module.ensures

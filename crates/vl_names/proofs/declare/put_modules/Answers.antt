@@ -1,0 +1,7 @@
+use Rattle.std.proofs.Common.{rules}
+use Rattle.vl_names.specs.Declarations.{module_declares}
+use Rattle.vl_names.proofs.Lists.{one_done}
+use Rattle.vl_names.proofs.declare.put_modules.Goals as goal
+
+pub loop-module-preserved : goal.loop-module-preserved
+loop-module-preserved c = one_done module_declares c.args.modules.now c.loop-module.module-index c.module-item.result _ _ _ (search rules) (search rules) c.loop-module.invariant c.in_ok-put_module.ensures

@@ -1,0 +1,7 @@
+-- what is there with what is left is what was there with all
+use Rattle.std.proofs.Common.{◌≡◌, ◌++◌, drop}
+use Rattle.vl_names.specs.Declarations.{wires_declare}
+use Rattle.vl_names.proofs.declare.put_wires.Given as goal
+
+abbrev pub invariant-loop-name : goal.invariant-loop-name
+invariant-loop-name l = l.fn.into.items ++ wires_declare l.scope l.ranged l.names ≡ l.into.items ++ wires_declare l.scope l.ranged (drop l.name-index l.names)

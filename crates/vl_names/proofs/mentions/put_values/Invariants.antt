@@ -1,0 +1,7 @@
+-- what is there with what is left is what was there with all
+use Rattle.std.proofs.Common.{◌≡◌, ◌++◌, drop}
+use Rattle.vl_names.specs.Mentions.{values_names}
+use Rattle.vl_names.proofs.mentions.put_values.Given as goal
+
+abbrev pub invariant-loop-value : goal.invariant-loop-value
+invariant-loop-value l = l.fn.into.items ++ values_names l.scope l.values ≡ l.into.items ++ values_names l.scope (drop l.value-index l.values)
