@@ -8,6 +8,7 @@ use crate::operators::operator;
 use crate::programs::ended;
 use case_file::{Case, Stop, expanded, tokens};
 use case_front::{expression, tree};
+use case_middle::names;
 use std::alloc::Global;
 
 /// What a call gives for a case.
@@ -20,6 +21,7 @@ pub fn answer(alloc: Global, call: &str, case: &Case) -> Result<String, Stop> {
         "lex" => tokens(alloc, case),
         "expressions" => expression(alloc, case),
         "parse" => tree(alloc, case),
+        "scopes" => names(alloc, case),
         "designs" => rewritten(alloc, case),
         "prefixes" => prefixes(alloc, case),
         "evaluate" => computed(alloc, case),
