@@ -55,4 +55,20 @@ def uses(size):
     return f"`define A(p) x <= p + {name};\nmodule m; initial begin\n" + "`A(aa)\n" * count + "end endmodule\n"
 
 
+def scopes(lines):
+    """Some lines; two of three declare a name, and ten scopes stand in one another."""
+    levels = range(10)
+    text = ["module m(input clk);", "  reg top;"]
+    process = 0
+    while len(text) + 2 * len(levels) + 13 < lines:
+        names = [f"r{process}_{level}" for level in levels]
+        text.append("  initial")
+        for level, name in zip(levels, names):
+            text += [f"{'  ' * level}  begin : b{process}_{level}", f"{'  ' * level}    reg {name};"]
+        text += [f"    {name} = {outer} + top;" for name, outer in zip(names, reversed(names))]
+        text += ["  end " * len(levels)]
+        process += 1
+    return "\n".join([*text, "endmodule", ""])
+
+
 SOURCES = [statements, modules, blocks, parentheses, sums, uses]
