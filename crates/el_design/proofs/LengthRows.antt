@@ -1,4 +1,4 @@
--- Worked exits and lengths: how small statements may be left, and the steps of the longest walk out and to a clock wait; and what is told of small loops.
+-- Worked exits and lengths: how small statements may be left, and the most steps of a walk out and to a clock wait; and what is told of small loops.
 use Rattle.std.proofs.Common.{◌≡◌, ℕ, Bool, true, false, List, [], ◌∷◌, Some, None, refl}
 use Rattle.xt_bits.specs.Word as words
 use Rattle.xt_bits.specs.Word.{word}

@@ -12,7 +12,6 @@ use Rattle.el_design.specs.Exits.{Past, Away, Told, exits_in_place, TellsRightly
 use Rattle.el_design.specs.Lengths.{Ahead, one_more, leaving, lengths_in_place, to_exit, aheads, NoneSpins, whole_of, IsWithin, steps_of, StepsGoDown, LengthsBoundWalks}
 use Rattle.el_design.proofs.OrderPlaces.{con_got}
 use Rattle.el_design.proofs.Bounds.{bound_turns}
-use Rattle.el_design.proofs.Places.{walks_in_place}
 use Rattle.el_design.proofs.ExitsBack.{opened_round}
 use Rattle.el_design.proofs.ExitsInPlace.{exits_unfold}
 use Rattle.el_design.proofs.ExitsWalks.{all_are_walks}
@@ -30,7 +29,7 @@ module _ (d : Flat) (finite : IsFinite d) (told : Statement → Told) (marks : L
   within n o h = h
 
   pub go_down : StepsGoDown d told marks s
-  go_down waits ahead k next n w step e = within (suc n) _ (subst (λ o. Under (one_more o) (aheads d told waits marks ahead k Past)) e (lower d finite told marks s right waiting waits ahead step (walks_in_place d marks s k w)))
+  go_down waits ahead k next n placed step e = within (suc n) _ (subst (λ o. Under (one_more o) (aheads d told waits marks ahead k Past)) e (lower d finite told marks s right waiting waits ahead step placed))
 
   abbrev ahead_of : Option ℕ → Ahead → List Work → Ahead
   ahead_of waits goal k = aheads d told waits marks goal k
@@ -103,6 +102,12 @@ module _ (d : Flat) (sound : IsSound d) (clean : IsCleanBefore d 13) where
       go true = always_fits d sound process.place process.body (process_body d sound process c)
       go false = process_body d sound process c
 
-  pub process_bounded : (p : ℕ) (process : FlatProc) → slice_get d.procs p ≡ Some process → LengthsBoundWalks d (told_of d) [] (whole_of process)
-  process_bounded p process is =
-      bound_walks d finite (told_of d) [] (whole_of process) (loops_are_told d sound finite (whole_of process) (whole_sound process (con_got d.procs p process is))) (none_spins d clean p process is)
+  module _ (p : ℕ) (process : FlatProc) (is : slice_get d.procs p ≡ Some process) where
+    right : TellsRightly d (told_of d) (whole_of process)
+    right = loops_are_told d sound finite (whole_of process) (whole_sound process (con_got d.procs p process is))
+
+    pub process_bounded : LengthsBoundWalks d (told_of d) [] (whole_of process)
+    process_bounded = bound_walks d finite (told_of d) [] (whole_of process) right (none_spins d clean p process is)
+
+    pub process_down : StepsGoDown d (told_of d) [] (whole_of process)
+    process_down = go_down d finite (told_of d) [] (whole_of process) right (none_spins d clean p process is)

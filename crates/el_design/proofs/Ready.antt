@@ -8,8 +8,8 @@ use Rattle.el_design.specs.Value.{Scene}
 use Rattle.el_design.specs.Stack.{Work, Do, End, Return, Test, Step, Turns, Await, IsStill, is_waiting, is_ended}
 use Rattle.el_design.specs.Act.{Process, act, act_do, act_top, assigned, enabled, replied}
 use Rattle.xt_bits.specs.Stimulus.{Reply}
-use Rattle.el_design.specs.Queue.{Config, scene, has_value, is_stuck_at, is_stuck, can_do, can_run_at, can_run, Event, Run, Follow, Update, with_process, take_run, take_net, take_oldest, take_update, numbers_from, are_valued, is_quiet, take, ready}
-use Rattle.el_design.specs.Laws.{has_arm, ProcessesRun, places_from, has_updates, is_empty, EventsAreListed}
+use Rattle.el_design.specs.Queue.{Config, scene, has_value, is_stuck_at, is_stuck, can_do, can_run_at, can_run, Event, Run, Follow, Update, with_process, take_run, take_net, take_oldest, take_update, numbers_from, are_valued, is_quiet, take, told, told_by, ready}
+use Rattle.el_design.specs.Laws.{has_arm, ProcessesRun, places_from, has_updates, is_empty, EventsAreListed, EventsTell}
 
 -- ---- a process has an event exactly where its stack shows it
 
@@ -187,3 +187,17 @@ events_are_listed d c =
     filter-append can (runs ++ follows) updates
     ∙ ap (λ es. es ++ filter can updates) (filter-append can runs follows)
     ∙ rw (runs_listed d c, nets_listed d c, updates_listed d c (is_quiet d c) refl, quiet_listed d c) refl
+
+-- ---- what events tell
+
+told_where_taken : (d : Flat) (c : Config) (i : ℕ) (o : Option Process) → is_some (elim o [ None ↦ None | Some p ↦ told_by i (act d (scene d c) p) ]) ≡ is_some (take_run d c i o)
+told_where_taken d c i None = refl
+told_where_taken d c i (Some p) = option_map_some _ (act d (scene d c) p) ∙ sym (option_map_some (λ a. with_process c i a.writes a.process) (act d (scene d c) p))
+
+pub events_tell : (d : Flat) (c : Config) → EventsTell d c
+events_tell d c = (tells, λ i. told_where_taken d c i (slice_get c.procs i))
+  where
+    tells : (e : Event) → is_some (take d c e) ≡ true → is_some (told d c e) ≡ true
+    tells (Run i) h = told_where_taken d c i (slice_get c.procs i) ∙ h
+    tells (Follow n) h = refl
+    tells (Update i) h = refl

@@ -14,7 +14,7 @@ use Rattle.el_design.specs.Fits.{IsWordOf, FitsStore, FitsScene, IsWellMade, IsS
 use Rattle.el_design.specs.Stack.{Work, Do, quiet_step, IsStill, settle, is_waiting, is_ended}
 use Rattle.el_design.specs.Act.{Process, act}
 pub use Rattle.el_design.specs.Queue.{is_empty}
-use Rattle.el_design.specs.Queue.{Config, has_value, is_stuck, can_run, Event, Run, Follow, Update, take, ready, IsStarved, IsAtRest}
+use Rattle.el_design.specs.Queue.{Config, has_value, is_stuck, can_run, Event, Run, Follow, Update, take, told, ready, IsStarved, IsAtRest}
 use Rattle.el_design.specs.Run.{IsRow, IsStimulus, Starts, Continues, Takes, Any, Runs}
 use Rattle.el_design.specs.Sizes.{CountsTurns, CountsStops, u_of, s_of, nets_size}
 use Rattle.el_design.specs.Rules.{most_turns}
@@ -75,6 +75,12 @@ listed d c =
 
 abbrev pub EventsAreListed : Flat → Config → Type 0
 EventsAreListed d c = ready d c ≡ listed d c
+
+-- Each event that may be taken tells something, and one of a process tells something exactly where it may be taken.
+abbrev pub EventsTell : Flat → Config → Type 0
+EventsTell d c =
+    ((e : Event) → is_some (take d c e) ≡ true → is_some (told d c e) ≡ true)
+    × ((i : ℕ) → is_some (told d c (Run i)) ≡ is_some (take d c (Run i)))
 
 -- ---- edges of runs
 

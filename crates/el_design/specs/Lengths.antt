@@ -1,4 +1,4 @@
--- How long the walks are by which a statement may be left without a clock wait, by its structure; `Exits` says alike which exits there are.
+-- How long the walks are at most by which a statement may be left without a clock wait, by its structure; `Exits` says alike which exits there are.
 -- All of it is this project's own.
 use Rattle.std.specs.Prelude.{◌≡◌, ◌==◌, ◌≤◌, ℕ, zero, suc, max, Bool, true, false, if◌then◌else◌, List, [], ◌∷◌, Option, Some, None, slice_get, length}
 use Rattle.xt_base.specs.declared.refusals.Place.{Place}
@@ -8,7 +8,7 @@ use Rattle.el_design.specs.Names.{is_constant}
 use Rattle.el_design.specs.Purity.{contains_number}
 use Rattle.el_design.specs.Stack.{Work, Do, End, Return, Turns}
 use Rattle.el_design.specs.InPlace.{Stands}
-use Rattle.el_design.specs.Places.{open_on}
+use Rattle.el_design.specs.Places.{open_on, ArePlaced}
 use Rattle.el_design.specs.Turns.{fixed, HasTurns, body_of}
 use Rattle.el_design.specs.Walk as walk
 use Rattle.el_design.specs.Walk.{is_constant_case, Steps, Walks, HasWalk}
@@ -156,11 +156,11 @@ to_exit Past (Away n) = None
 to_exit (Away m) Past = None
 to_exit (Away m) (Away n) = if m == n then Some 0 else None
 
--- the steps of the longest walk from a statement's start out of it by this exit, without a clock wait
+-- no walk from a statement's start out of it by this exit, without a clock wait, has more steps; None where there is no such walk
 abbrev pub way_out : Flat → (Statement → Told) → List ℕ → Statement → Exit → Option ℕ
 way_out d told marks s e = lengths_in_place d told None marks s (to_exit e)
 
--- and of the longest to a clock wait in it
+-- and none to a clock wait in it has more
 abbrev pub way_to_wait : Flat → (Statement → Told) → List ℕ → Statement → Option ℕ
 way_to_wait d told marks s = lengths_in_place d told (Some 0) marks s (λ e. None)
 
@@ -196,10 +196,11 @@ abbrev pub steps_of : {d : Flat} {marks : List ℕ} {k end : List Work} → Walk
 steps_of walk.stays = 0
 steps_of (walk.then step rest) = suc (steps_of rest)
 
--- Each step of a walk lowers the number that the stack has by its structure, where it leads to what is meant.
+-- Each step of a walk lowers the number that the stack has by its structure, where it leads to what is meant. The stack need not have been come to from the
+-- statement's start: it is enough that each piece of work on it stands in the statement, as on a stack that goes on behind a clock wait.
 abbrev pub StepsGoDown : Flat → (Statement → Told) → List ℕ → Statement → Type 0
 StepsGoDown d told marks s =
-    (waits : Option ℕ) (ahead : Ahead) (k next : List Work) (n : ℕ) → Walks d marks (Do s ∷ []) k → Steps d marks k next →
+    (waits : Option ℕ) (ahead : Ahead) (k next : List Work) (n : ℕ) → ArePlaced d marks s k → Steps d marks k next →
     aheads d told waits marks ahead next Past ≡ Some n → IsWithin (suc n) (aheads d told waits marks ahead k Past)
 
 -- A statement has a walk out of it by an exit exactly where it has a length for it, and none is longer; nor is one to a clock wait longer than its length.

@@ -24,7 +24,8 @@ pub fn exits_unfold()
 
 /// Where no task or function leads back to itself and no loop spins, a statement has a walk out by an exit exactly where it has a
 /// length for that exit, in steps of walks, and no such walk is longer; nor is one to a clock wait longer than the length for waits.
-/// Each step of a walk lowers the number that the stack has by its structure. And what lies ahead of an exit that a statement hasn't
+/// Each step of a walk, from each stack whose work stands in the statement in place, lowers the number that the stack has by its
+/// structure. And what lies ahead of an exit that a statement hasn't
 /// doesn't matter for its length.
 pub fn lengths_bound_walks()
     ensures bound { (d : Flat) → IsFinite d → (told : Statement → Told) → (marks : List ℕ) → (s : Statement) → TellsRightly d told s → NoneSpins d marks s → LengthsBoundWalks d told marks s }
@@ -32,11 +33,12 @@ pub fn lengths_bound_walks()
     ensures exits { (d : Flat) → (told : Statement → Told) → (marks : List ℕ) → (s : Statement) → LengthsAreOfExits d told marks s }
 {}
 
-/// Where no rule of a pass before the one on sizes is broken, no loop of a process spins; so in a sound design the walks of each process
-/// are bounded by its lengths.
+/// Where no rule of a pass before the one on sizes is broken, no loop of a process spins; so in a sound design the walks of each process,
+/// from its start and from each stack on which it may go on behind a clock wait, are bounded by its lengths.
 pub fn loops_wait()
     ensures spins { (d : Flat) → IsCleanBefore d 13 → (p : ℕ) → (process : FlatProc) → slice_get d.procs p ≡ Some process → NoneSpins d [] (whole_of process) }
     ensures bound { (d : Flat) → IsSound d → IsCleanBefore d 13 → (p : ℕ) → (process : FlatProc) → slice_get d.procs p ≡ Some process → LengthsBoundWalks d (told_of d) [] (whole_of process) }
+    ensures down { (d : Flat) → IsSound d → IsCleanBefore d 13 → (p : ℕ) → (process : FlatProc) → slice_get d.procs p ≡ Some process → StepsGoDown d (told_of d) [] (whole_of process) }
 {}
 
 /// What is told of a `for` by its text, and where it is counted by running it on its variable alone, is so wherever a sound statement

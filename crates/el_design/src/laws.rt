@@ -13,7 +13,7 @@ ghost use Rattle.el_design.specs.Queue.{Config};
 ghost use Rattle.el_design.specs.Bodies.{BodyRuns, FunctionsEnd};
 ghost use Rattle.el_design.specs.Places.{WalksInPlace};
 ghost use Rattle.el_design.specs.Sound.{IsSound};
-ghost use Rattle.el_design.specs.Laws.{ValuesFit, BodiesFit, StartFits, NextEdgeFits, EventsFit, StacksStayLow, EveryOrder, StacksSettle, ProcessesRun, EventsAreListed, EveryEdgeEnds, LoopsCount, SizesAreOne, AtMostUEvents, AtMostMaxEvents, EveryStimulusRuns};
+ghost use Rattle.el_design.specs.Laws.{ValuesFit, BodiesFit, StartFits, NextEdgeFits, EventsFit, StacksStayLow, EveryOrder, StacksSettle, ProcessesRun, EventsAreListed, EventsTell, EveryEdgeEnds, LoopsCount, SizesAreOne, AtMostUEvents, AtMostMaxEvents, EveryStimulusRuns};
 
 /// Steps that are no events lead from each stack to the one that `settle` gives. It is still, or has on top a `forever` of nothing.
 /// No such step changes what `settle` gives.
@@ -32,6 +32,11 @@ pub fn processes_run()
 /// of each process that has one.
 pub fn events_are_listed()
     ensures { (d : Flat) → (c : Config) → EventsAreListed d c }
+{}
+
+/// Each event that may be taken tells something; and one of a process tells something exactly where it may be taken.
+pub fn events_tell()
+    ensures { (d : Flat) → (c : Config) → EventsTell d c }
 {}
 
 /// Where the body of a function ends, the events of a stack with it come to its end, and leave the store that it leaves when it is run by its structure.

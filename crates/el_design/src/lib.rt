@@ -18,9 +18,9 @@ pub use designs::{Design, Func, Import, Net, Pin, Port, Proc, Source, Task, Var}
 pub use exits::{exits_are_walks, exits_unfold, lengths_bound_walks, loops_are_told, loops_wait};
 pub use expressions::{BinOp, Kind, Pick, TExpr, Target, UnOp};
 pub use laws::{
-    at_most_u_events, bodies_fit, bodies_run, events_are_listed, every_edge_ends, every_order,
-    every_stimulus_runs, functions_end, loops_count, processes_run, sizes_are_one, stacks_settle,
-    stacks_stay_low, states_fit, values_fit, walks_in_place,
+    at_most_u_events, bodies_fit, bodies_run, events_are_listed, events_tell, every_edge_ends,
+    every_order, every_stimulus_runs, functions_end, loops_count, processes_run, sizes_are_one,
+    stacks_settle, stacks_stay_low, states_fit, values_fit, walks_in_place,
 };
 pub use orders::{Checked, NetOrder};
 pub use progressions::{counted_loops_end, values_are_alike};

@@ -4,9 +4,11 @@
 #![tactic(auto)]
 
 mod first;
+mod laws;
 
 pub use first::compile::compile;
 pub use first::laws::sources_are_checked;
 pub use first::reader::read;
 pub use first::source::{Port, Source, Step, Sum, Term};
 pub use first::tokens::FormError;
+pub use laws::calls_are_listed;

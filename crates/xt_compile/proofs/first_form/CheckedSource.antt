@@ -39,7 +39,8 @@ use Rattle.xt_compile.specs.declared.first.source.Step.TheVariants.{Wait, Assign
 use Rattle.xt_compile.specs.declared.first.source.Sum.{Sum}
 use Rattle.xt_compile.specs.first.Flatten.{var_of, net_of, input_of, pin_of, design_of}
 use Rattle.xt_compile.specs.first.Source.{IsPort, IsSource, IsStep, is_wait, tokens_of, waits, widths}
-use Rattle.xt_compile.specs.Hardware.{CallsHost, calls_host}
+use Rattle.xt_compile.specs.Hardware.{hosts_of}
+use Rattle.xt_compile.proofs.Hosts.{none_without_imports}
 use Rattle.xt_compile.proofs.first_form.Lists.{all_mapped}
 use Rattle.xt_compile.proofs.first_form.PlainSource.{total, step, steps, process, flat, flat_is}
 use Rattle.xt_compile.proofs.first_form.SourceSums.{IsSummed, input_at, output_at, variable_of, total_is, wide_output}
@@ -613,9 +614,6 @@ design_spins s at = subst (λ (f : Flat). SpinsAt f at ↔ ((waits s ≡ false) 
 pub design_clean : (s : Source) → IsSource s → IsCleanBefore (flat_of (design_of s)) 12
 design_clean s is = subst (λ (f : Flat). IsCleanBefore f 12) (sym (flat_is s)) (clean_before s is)
 
--- no process of it calls the host
-pub design_calls_nothing : (s : Source) (p : ℕ) → CallsHost (flat_of (design_of s)) p → ⊥
-design_calls_nothing s p h = go (subst (λ (f : Flat). CallsHost f p) (flat_is s) h)
-  where
-    go : CallsHost (flat s) p → ⊥
-    go (calls_host m) = no_host s (has s p _ m)
+-- it has no imports, so no process has pins for calls
+pub design_has_no_hosts : (s : Source) → hosts_of (flat_of (design_of s)) ≡ []
+design_has_no_hosts s = none_without_imports (flat_of (design_of s)) (ap (λ (f : Flat). f.imports) (flat_is s))

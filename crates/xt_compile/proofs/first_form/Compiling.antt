@@ -1,14 +1,11 @@
 -- The theorem of the compiler, for a source of the form.
-use Rattle.std.proofs.Common.{◌≡◌, ◌≤◌, ◌↔◌, ℕ, true, List, [], ◌∷◌, None, length, map, refl, sym, ap, ◌∙◌, subst, arith}
-use Rattle.std.specs.Prelude.{Contains}
+use Rattle.std.proofs.Common.{◌≡◌, ◌≤◌, ℕ, true, List, [], ◌∷◌, None, length, map, refl, sym, ap, ◌∙◌, subst, arith}
 use Rattle.std.specs.List.{list_any}
 use Rattle.xt_bits.specs.Trace.{Trace}
 use Rattle.nt_core.specs.Conditions.{IsNetlist}
-use Rattle.nt_core.specs.HostLine.{HostLine}
 use Rattle.nt_core.specs.Parts.{Parts}
 use Rattle.nt_core.specs.Text.{text_of}
 use Rattle.el_design.specs.Queue.{numbers}
-use Rattle.el_design.proofs.OrderLists.{con_nil}
 use Rattle.el_design.specs.declared.designs.Design.{Design}
 use Rattle.el_design.specs.Plain as plain
 use Rattle.el_design.specs.Plain.{Statement, FlatProc}
@@ -16,7 +13,7 @@ use Rattle.el_design.specs.View.{seq_of, statement_of, proc_of, flat_of}
 use Rattle.xt_compile.specs.declared.first.source.Source.{Source}
 use Rattle.xt_compile.specs.declared.first.source.Step.{Step}
 use Rattle.xt_compile.specs.declared.first.source.Step.TheVariants.{Wait, Assign}
-use Rattle.xt_compile.specs.Hardware.{CallsHost, HasOutside, IsHardwareOf}
+use Rattle.xt_compile.specs.Hardware.{HasOutside, IsHardwareOf}
 use Rattle.xt_compile.specs.first.Compiled.{HasPins, Ticks}
 use Rattle.xt_compile.specs.first.Flatten.{process_of, design_of}
 use Rattle.xt_compile.specs.first.Form.{IsOfForm, IsBody, var_widths, net_widths}
@@ -24,7 +21,7 @@ use Rattle.xt_compile.specs.first.Machine.{HasBody, start_point, trace_of}
 use Rattle.xt_compile.specs.first.Nodes as nodes
 use Rattle.xt_compile.specs.first.Source as source
 use Rattle.xt_compile.specs.first.Source.{IsSource, waits}
-use Rattle.xt_compile.proofs.first_form.CheckedSource.{no_value_of, design_checked, design_calls_nothing}
+use Rattle.xt_compile.proofs.first_form.CheckedSource.{no_value_of, design_checked, design_has_no_hosts}
 use Rattle.xt_compile.proofs.first_form.OfForm.{of_form}
 use Rattle.xt_compile.proofs.first_form.OneRun.{NoValues, one_run}
 use Rattle.xt_compile.proofs.first_form.PlainSource.{step, body_is, list_is}
@@ -69,15 +66,8 @@ source_waits (Assign at i x ∷ xs) h = source_waits xs h
 
 -- ---- the outside
 
--- hosts that there aren't serve the processes that call, of which there are none
-no_hosts : (s : Source) (hosts : List HostLine) → hosts ≡ [] → (p : ℕ) → Contains (map (λ h. h.process) hosts) p ↔ CallsHost (flat_of (design_of s)) p
-no_hosts s hosts none p = (
-  λ c. absurd (con_nil p (subst (λ (hs : List HostLine). Contains (map (λ h. h.process) hs) p) none c)),
-  λ h. absurd (design_calls_nothing s p h),
-)
-
 outside_is : (s : Source) (n : Parts) → HasPins (design_of s) n → HasOutside (design_of s) n
-outside_is s n pins = record { inputs = pins.inputs; outputs = pins.outputs; functions = pins.functions; processes = pins.processes; hosts = no_hosts s n.hosts pins.hosts }
+outside_is s n pins = record { inputs = pins.inputs; outputs = pins.outputs; functions = pins.functions; processes = pins.processes; hosts = pins.hosts ∙ sym (design_has_no_hosts s) }
 
 -- ---- the theorem
 

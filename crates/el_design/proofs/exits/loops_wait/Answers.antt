@@ -6,3 +6,6 @@ returns-clause-spins c = law.none_spins
 
 pub returns-clause-bound : goal.returns-clause-bound
 returns-clause-bound c = law.process_bounded
+
+pub returns-clause-down : goal.returns-clause-down
+returns-clause-down c = law.process_down
