@@ -1,5 +1,5 @@
 -- The imports that processes call, and the pins for their calls.
-use Rattle.std.proofs.Common.{◌≡◌, ◌⊎◌, inl, inr, ℕ, zero, suc, List, [], ◌∷◌, ◌++◌, Option, Some, None, Contains, flat_map, slice_get, length, map, refl, sym, ◌∙◌, ap, ap₂, subst}
+use Rattle.std.proofs.Common.{◌≡◌, ◌⊎◌, inl, inr, ℕ, zero, suc, ◌+◌, List, [], ◌∷◌, ◌++◌, Option, Some, None, Contains, flat_map, slice_get, length, map, refl, sym, ◌∙◌, ap, ap₂, subst}
 use Rattle.std.specs.List.{enumerate_from, filter_map}
 use Rattle.std.proofs.lemmas.List.Elements.{Contains-append_cases}
 use Rattle.xt_base.specs.declared.refusals.Place.{Place}
@@ -148,4 +148,4 @@ none_without_imports d e = go 0 d.procs
   where
     go : (n : ℕ) (ps : List FlatProc) → flat_map (λ p. host_of p.0 (functions_called d p.1.body)) (enumerate_from n ps) ≡ []
     go n [] = refl
-    go n (p ∷ ps) = rw (none_got d.imports e (called_in_place d p.body)) (go (suc n) ps)
+    go n (p ∷ ps) = rw (none_got d.imports e (called_in_place d p.body)) (go (n + 1) ps)
