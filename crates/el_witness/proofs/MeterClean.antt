@@ -55,6 +55,9 @@ is_finite = text.none_recursive meter descend
 fit : text.ArgumentsFit meter
 fit = (refl, refl, refl)
 
+alone : text.FunctionsAlone meter
+alone = (refl, refl)
+
 -- ---- disables and races
 
 is_own : place.OwnMarks meter inside are_inside
@@ -313,7 +316,7 @@ clean_before pass rule at l (rules.impure h) = none_impure at h
 clean_before pass rule at l (rules.recursive h) = is_finite at h
 clean_before pass rule at l (rules.misfit h) = text.none_misfit meter fit at h
 clean_before pass rule at l (rules.disables f h) = none_disables at h
-clean_before pass rule at l (rules.host_inside f h) = text.none_inside meter fit at h
+clean_before pass rule at l (rules.host_inside f h) = text.none_inside meter alone at h
 clean_before pass rule at l (rules.nested f h) = none_nested at h
 clean_before pass rule at l (rules.spins h) = none_spins at h
 clean_before pass rule at l (rules.turns h) = none_turns at h
@@ -365,7 +368,7 @@ is_clean pass rule at (rules.impure h) = none_impure at h
 is_clean pass rule at (rules.recursive h) = is_finite at h
 is_clean pass rule at (rules.misfit h) = text.none_misfit meter fit at h
 is_clean pass rule at (rules.disables f h) = none_disables at h
-is_clean pass rule at (rules.host_inside f h) = text.none_inside meter fit at h
+is_clean pass rule at (rules.host_inside f h) = text.none_inside meter alone at h
 is_clean pass rule at (rules.nested f h) = none_nested at h
 is_clean pass rule at (rules.spins h) = none_spins at h
 is_clean pass rule at (rules.turns h) = none_turns at h

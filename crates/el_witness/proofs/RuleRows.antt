@@ -1,14 +1,15 @@
 -- The rows of the rules: each break is found, and the tests hold of the neighbours.
-use Rattle.std.proofs.Common.{◌≡◌, ◌⊎◌, inl, inr, ℕ, zero, suc, List, [], ◌∷◌, Some, None, refl, sym, ap, subst, arith}
+use Rattle.std.proofs.Common.{◌≡◌, ◌⊎◌, inl, inr, ℕ, zero, suc, Bool, true, false, is_none, List, [], ◌∷◌, Some, None, refl, sym, ap, subst, arith}
 use Rattle.std.specs.Prelude.{Contains}
 use Rattle.xt_base.specs.declared.refusals.Place.{Place}
-use Rattle.el_design.specs.Plain.{ToVariable, Nowhere, NetValue, Statement, Null, Disable, FlatTask, FlatProc, Flat}
-use Rattle.el_design.specs.InPlace.{Stands, itself, in_first, in_rest, in_block, in_named, in_task, HasInPlace, Meets, IsPart, task_part, block_part}
+use Rattle.el_design.specs.Plain.{Expr, Lvalue, ToVariable, Nowhere, NetValue, Statement, Null, Block, Enable, Disable, FlatTask, FlatProc, Flat}
+use Rattle.el_design.specs.Texts.{texts}
+use Rattle.el_design.specs.InPlace.{InPlace, in_text, in_body, Stands, itself, in_first, in_rest, in_block, in_named, in_task, HasInPlace, Meets, IsPart, task_part, block_part}
 use Rattle.el_design.specs.Touches.{writes_blocking, writes_nonblocking, by_blocking, by_nonblocking, reads, reads_net, names_it, depends, depends_through}
 use Rattle.el_design.specs.Calls.{IsImpure, foreign, outside, early, leaves, result_place, IsRecursive, TaskOf, FunctionOf, task_body, function_body, leads_back, leads, there, onward, enables, calls, HasMisfit, misfit_enable, misfit_host, misfit_call, of_function, of_import, of_statement, of_net, in_process, DisablesWrongly, not_own, also_other, in_function, CallsHostInside, inside_statement, inside_net, import_number}
 use Rattle.el_design.specs.Rules.{TwoWriters, two_write, WrittenBothWays, both_ways, ReadAcross, variable_across, net_across, NetsInCircle, circle}
 use Rattle.el_design.specs.Witnesses.{at}
-use Rattle.el_design.proofs.OrderLists.{con_nil, con_cases}
+use Rattle.el_design.proofs.OrderLists.{con_nil, con_cases, con_all}
 use Rattle.el_design.proofs.Texts.{met_in_place, in_place_met}
 use Rattle.el_witness.specs.Bench.{u}
 use Rattle.el_witness.specs.RuleRows as rows
@@ -36,6 +37,21 @@ waits_inside = (foreign (0, omega arith, refl) ([], in_block (in_rest (in_first 
 pub names_outside : Row IsImpure rows.names_outside 7 rows.assigns
 names_outside = (outside (0, omega arith, refl) ([], in_block (in_rest (in_first itself))) refl, text.none_impure rows.assigns refl)
 
+pub enables_inside : Row IsImpure rows.enables_inside 7 rows.assigns
+enables_inside = (foreign (0, omega arith, refl) ([], in_block (in_rest (in_first itself))) refl, text.none_impure rows.assigns refl)
+
+pub calls_inside : Row IsImpure rows.calls_inside 7 rows.assigns
+calls_inside = (foreign (0, omega arith, refl) ([], in_block (in_rest (in_first itself))) refl, text.none_impure rows.assigns refl)
+
+pub names_net : Row IsImpure rows.names_net 7 rows.assigns
+names_net = (outside (0, omega arith, refl) ([], in_block (in_rest (in_first itself))) refl, text.none_impure rows.assigns refl)
+
+pub names_import : Row IsImpure rows.names_import 7 rows.assigns
+names_import = (outside (0, omega arith, refl) ([], in_block (in_rest (in_first itself))) refl, text.none_impure rows.assigns refl)
+
+pub of_the_module : Row IsImpure (rows.with_variable []) 6 (rows.with_variable (3 ∷ []))
+of_the_module = (outside (0, omega arith, refl) ([], in_block (in_first itself)) refl, text.none_impure (rows.with_variable (3 ∷ [])) refl)
+
 pub reads_early : Row IsImpure rows.reads_early 3 rows.reads_late
 reads_early = (early (0, omega arith, refl) refl (result_place refl refl), text.none_impure rows.reads_late refl)
 
@@ -58,6 +74,9 @@ calls_itself = (leads_back {a = FunctionOf 1} {b = FunctionOf 1} (leads (functio
 pub too_few : Row HasMisfit (rows.enables_with []) 7 (rows.enables_with (rows.byte 1 ∷ []))
 too_few = (misfit_enable (in_process (0, omega arith, refl) ([], itself)) refl, text.none_misfit (rows.enables_with (rows.byte 1 ∷ [])) (refl, refl, refl))
 
+pub no_output : Row HasMisfit (rows.copies_all []) 7 (rows.copies_to (ToVariable 0))
+no_output = (misfit_enable (in_process (0, omega arith, refl) ([], itself)) refl, text.none_misfit (rows.copies_to (ToVariable 0)) (refl, refl, refl))
+
 pub no_target : Row HasMisfit (rows.copies_to Nowhere) 7 (rows.copies_to (ToVariable 0))
 no_target = (misfit_enable (in_process (0, omega arith, refl) ([], itself)) refl, text.none_misfit (rows.copies_to (ToVariable 0)) (refl, refl, refl))
 
@@ -79,13 +98,19 @@ bare_in_net = (misfit_call (of_net (0, omega arith, refl) refl) (0, omega arith,
 pub void_in_net : Row HasMisfit (rows.net_of rows.void rows.bare_call) 4 (rows.net_of rows.void (rows.read 0))
 void_in_net = (misfit_call (of_net (0, omega arith, refl) refl) (0, omega arith, refl) (of_import (import_number {i = 0} refl) refl), text.none_misfit (rows.net_of rows.void (rows.read 0)) (refl, refl, refl))
 
+pub import_too_many : Row HasMisfit (rows.net_of rows.giving rows.full_call) 4 (rows.net_of rows.giving rows.bare_call)
+import_too_many = (
+  misfit_call (of_net (0, omega arith, refl) refl) (0, omega arith, refl) (of_import (import_number {i = 0} refl) refl),
+  text.none_misfit (rows.net_of rows.giving rows.bare_call) (refl, refl, refl),
+)
+
 -- ---- rule 62
 
 pub in_statement : Row CallsHostInside (rows.calls_host rows.giving rows.host_inside) 5 (rows.calls_host rows.giving rows.host_to_x)
-in_statement = (inside_statement (first_has (rows.calls_host rows.giving rows.host_inside) _ _ refl itself) (0, omega arith, refl) (0, omega arith, refl) (import_number {i = 0} refl), text.none_inside (rows.calls_host rows.giving rows.host_to_x) (refl, refl, refl))
+in_statement = (inside_statement (first_has (rows.calls_host rows.giving rows.host_inside) _ _ refl itself) (0, omega arith, refl) (0, omega arith, refl) (import_number {i = 0} refl), text.none_inside (rows.calls_host rows.giving rows.host_to_x) (refl, refl))
 
 pub in_net : Row CallsHostInside (rows.net_of rows.giving rows.bare_call) 4 (rows.net_of rows.giving (rows.read 0))
-in_net = (inside_net (0, omega arith, refl) refl (0, omega arith, refl) (import_number {i = 0} refl), text.none_inside (rows.net_of rows.giving (rows.read 0)) (refl, refl, refl))
+in_net = (inside_net (0, omega arith, refl) refl (0, omega arith, refl) (import_number {i = 0} refl), text.none_inside (rows.net_of rows.giving (rows.read 0)) (refl, refl))
 
 -- ---- rules 70 to 73
 
@@ -176,12 +201,66 @@ no_marks (suc p) m c = absurd (con_nil m c)
 pub in_a_function : Row DisablesWrongly (rows.with_block (Disable (at 7) 0)) 7 (rows.with_block Null)
 in_a_function = (in_function (0, omega arith, refl) (0 ∷ [], in_block (in_first (in_named (in_rest (in_first itself))))), place.none_disables (rows.with_block Null) nothing no_inside refl no_marks refl)
 
-abbrev of_task : Inside
-of_task zero marks = placed nothing (0 ∷ marks) rows.shared_task.body
-of_task (suc t) marks = []
+-- no block with a mark stands in the process alone, and it enables nothing
+abbrev is_bare : Statement → Bool
+is_bare (Block place mark body) = is_none mark
+is_bare (Enable place t ins outs) = false
+is_bare x = true
+
+abbrev disables_unused : Flat
+disables_unused = rows.disables_in_task Null
+
+abbrev unused_body : Statement
+unused_body = rows.block 6 (Null ∷ Disable (at 8) 1 ∷ [])
+
+is_none_of : (m : ℕ) (place : Place) (body : Statement) → InPlace disables_unused.tasks (Block place (Some m) body) unused_body → ⊥
+is_none_of m place body (in_text c) = let off : false ≡ true = con_all is_bare (texts unused_body) (Block place (Some m) body) refl c in cc
+is_none_of m place body (in_body {at = line} {t = t} {ins = ins} {outs = outs} c e h) = let off : false ≡ true = con_all is_bare (texts unused_body) (Enable line t ins outs) refl c in cc
+
+enables_none : (place : Place) (t : ℕ) (ins : List Expr) (outs : List Lvalue) → InPlace disables_unused.tasks (Enable place t ins outs) unused_body → ⊥
+enables_none place t ins outs (in_text c) = let off : false ≡ true = con_all is_bare (texts unused_body) (Enable place t ins outs) refl c in cc
+enables_none place t ins outs (in_body {at = line} {t = q} {ins = given} {outs = targets} c e h) = let off : false ≡ true = con_all is_bare (texts unused_body) (Enable line q given targets) refl c in cc
+
+in_unused : {x : Statement} → HasInPlace disables_unused 0 x → InPlace disables_unused.tasks x unused_body
+in_unused {x = x} h =
+    let e : unused_body ≡ h.process.body = ap (λ o. elim o [ Some p ↦ p.body | None ↦ unused_body ]) h.is in
+    subst (InPlace disables_unused.tasks x) (sym e) h.there
+
+unused_has_none : IsPart disables_unused 0 1 → ⊥
+unused_has_none (block_part {at = place} {body = body} h) = is_none_of 1 place body (in_unused h)
+unused_has_none (task_part {at = place} {t = t} {ins = ins} {outs = outs} h e i) = enables_none place t ins outs (in_unused h)
 
 is_task : (a b : FlatTask) → Some a ≡ Some b → a ≡ b
 is_task a b e = cc
+
+abbrev of_idle : Inside
+of_idle zero marks = placed nothing (0 ∷ marks) rows.idle_task.body
+of_idle (suc t) marks = []
+
+idle_inside : AreInside (rows.idle_task ∷ []) of_idle
+idle_inside zero task marks e = subst (λ t. of_idle 0 marks ≡ placed of_idle (t.mark ∷ marks) t.body) (is_task rows.idle_task task e) refl
+idle_inside (suc t) task marks e = absurd (let f : None ≡ Some task = e in cc)
+
+abbrev disables_used : Flat
+disables_used = rows.disables_in_task (rows.enable 7 0)
+
+used_marks : place.OwnMarks disables_used of_idle idle_inside
+used_marks zero m c = go (con_cases 1 m [] c)
+  where
+    go : (1 ≡ m) ⊎ Contains [] m → IsPart disables_used 0 m
+    go (inl e) = subst (IsPart disables_used 0) e (block_part (first_has disables_used _ _ refl (in_block (in_first (in_task refl itself)))))
+    go (inr n) = absurd (con_nil m n)
+used_marks (suc p) m c = absurd (con_nil m c)
+
+pub of_none : Row DisablesWrongly (rows.disables_in_task Null) 8 (rows.disables_in_task (rows.enable 7 0))
+of_none = (
+  not_own {p = 0} (first_has disables_unused _ _ refl (in_block (in_rest (in_first itself)))) unused_has_none,
+  place.none_disables disables_used of_idle idle_inside refl used_marks refl,
+)
+
+abbrev of_task : Inside
+of_task zero marks = placed nothing (0 ∷ marks) rows.shared_task.body
+of_task (suc t) marks = []
 
 task_inside : AreInside (rows.shared_task ∷ []) of_task
 task_inside zero task marks e = subst (λ t. of_task 0 marks ≡ placed of_task (t.mark ∷ marks) t.body) (is_task rows.shared_task task e) refl

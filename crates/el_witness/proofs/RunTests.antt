@@ -2,15 +2,19 @@
 use Rattle.std.proofs.Common.{◌≡◌, inr, ◌+◌, ◌&&◌, not, ℕ, zero, suc, Bool, true, List, [], ◌∷◌, map, zip, length, slice_get, Option, Some, None, refl, ap, subst, arith}
 use Rattle.std.specs.List.{list_any}
 use Rattle.xt_bits.specs.Word.{Word}
-use Rattle.xt_bits.specs.Stimulus.{Reply}
+use Rattle.xt_bits.specs.Stimulus.{Reply, Stimulus}
 use Rattle.xt_bits.specs.Trace.{Trace}
 use Rattle.el_design.specs.Plain.{FlatNet, Flat}
 use Rattle.el_design.specs.Store.{Store, start_store}
 use Rattle.el_design.specs.Queue.{Config, scene_of, net_aim, Event, take, ready, is_stuck, is_empty, IsAtRest}
-use Rattle.el_design.specs.Run.{IsSettled, started, woken, Takes, Any, Goes, Runs, rest_seen}
+use Rattle.el_design.specs.Run.{IsSettled, started, woken, Starts, Continues, Takes, Any, First, Goes, Runs, rest_seen}
+use Rattle.el_design.specs.Queue.{Telling}
+use Rattle.el_design.specs.Laws.{EdgeBegins}
+use Rattle.el_design.specs.Laws as edges
 use Rattle.el_design.proofs.Sample.{nets_once, settled}
 use Rattle.el_design.proofs.OrderLists.{some_is}
 use Rattle.el_design.proofs.WaysPuts.{left_of, right_of, not_so}
+use Rattle.el_witness.specs.MeterRun.{tellings, EdgeTells}
 
 module _ (d : Flat) where
   -- the first event that may be taken, and so on, so many at most
@@ -47,6 +51,26 @@ module _ (d : Flat) where
       go : (o : Option Event) → ((mid : Config) → Taking (suc k) mid (plays n mid)) → Taking k c (chosen (plays n) c o)
       go None more = refl
       go (Some e) more = step e (take d c e) refl more
+
+  -- each of them is the first
+  first_is : (es : List Event) (e : Event) → first_of es ≡ Some e → slice_get es 0 ≡ Some e
+  first_is [] e i = cc
+  first_is (x ∷ xs) e i = i
+
+  abbrev TakingFirst : ℕ → Config → List Event × Config → Type 0
+  TakingFirst k c x = Takes d First k c x.0 x.1
+
+  pub plays_first : (n k : ℕ) (c : Config) → TakingFirst k c (plays n c)
+  plays_first zero k c = refl
+  plays_first (suc n) k c = go (first_of (ready d c)) refl (plays_first n (suc k))
+    where
+      step : (e : Event) → First k (ready d c) e → (o : Option Config) → take d c e ≡ o → ((mid : Config) → TakingFirst (suc k) mid (plays n mid)) → TakingFirst k c (taken (plays n) c e o)
+      step e f None i more = refl
+      step e f (Some mid) i more = (f, (mid, i, more mid))
+
+      go : (o : Option Event) → first_of (ready d c) ≡ o → ((mid : Config) → TakingFirst (suc k) mid (plays n mid)) → TakingFirst k c (chosen (plays n) c o)
+      go None i more = refl
+      go (Some e) i more = step e (first_is (ready d c) e i) (take d c e) refl more
 
   -- ---- edges
 
@@ -147,3 +171,22 @@ module _ (d : Flat) where
           goes rows (length x.0) x.1 h,
         ),
       )
+
+  -- ---- edges of that run
+
+  pub begins : (row : List Word) (rows : List (List Word)) (replies : List (List Reply)) → SettledNow (first_edge row replies) →
+      EdgeBegins d (record { rows = row ∷ rows; replies = replies }) rows (first_edge row replies)
+  begins row rows replies s =
+      let begin : Config = first_edge row replies in
+      edges.first_edge refl (record { edge = refl; row = refl; store = refl; procs = refl; nets = settled_is row (start_store d) begin.nets s })
+
+  pub goes_on : (x : Stimulus) (row : List Word) (rows : List (List Word)) (begin : Config) → EdgeBegins d x (row ∷ rows) begin → rested (edge_end begin) ≡ true →
+      SettledNow (next_edge (edge_end begin) row) → EdgeBegins d x rows (next_edge (edge_end begin) row)
+  goes_on x row rows begin b r s =
+      let last : Config = edge_end begin in
+      let next : Config = next_edge last row in
+      edges.next_edge (plays 200 begin).0 b (plays_takes 200 0 begin) (rests last r) (record { edge = refl; row = refl; store = refl; procs = refl; nets = settled_is row last.store next.nets s })
+
+  pub edge_tells : (x : Stimulus) (rows : List (List Word)) (begin : Config) (telling : List Telling) → EdgeBegins d x rows begin → rested (edge_end begin) ≡ true →
+      tellings d begin (plays 200 begin).0 ≡ map Some telling → EdgeTells d x rows telling
+  edge_tells x rows begin telling b r t = (begin, (plays 200 begin).0, edge_end begin, b, plays_first 200 0 begin, rests (edge_end begin) r, t)

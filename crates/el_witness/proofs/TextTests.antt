@@ -1,6 +1,6 @@
 -- Tests of the rules that look at texts: where they hold, no function is impure, nothing leads back to itself, arguments fit, no import is called inside an expression,
 -- and enables and calls don't nest too deep. They compute. A test may fail of a design that breaks no rule.
-use Rattle.std.proofs.Common.{◌≡◌, ◌<◌, ◌≤◌, ◌+◌, ◌&&◌, not, ℕ, zero, suc, Bool, true, List, [], ◌∷◌, ◌++◌, map, flat_map, length, slice_get, Some, None, subst, arith}
+use Rattle.std.proofs.Common.{◌≡◌, ◌⊎◌, inl, inr, ◌<◌, ◌≤◌, ◌+◌, ◌-◌, ◌&&◌, ◌||◌, not, ℕ, zero, suc, Bool, true, false, List, [], ◌∷◌, ◌++◌, map, flat_map, length, slice_get, Some, None, subst, arith}
 use Rattle.std.specs.Prelude.{Contains, leb, ltb}
 use Rattle.std.specs.List.{list_all}
 use Rattle.std.proofs.lemmas.Bool.{leb-true, ltb-true}
@@ -15,12 +15,12 @@ use Rattle.el_design.specs.Purity.{is_foreign, names_outside, reads_early, leave
 use Rattle.el_design.specs.Sound.{bodies_of}
 use Rattle.el_design.specs.Sizes.{once, u_of}
 use Rattle.el_design.specs.Calls as calls
-use Rattle.el_design.specs.Calls.{IsImpure, IsRecursive, Routine, TaskOf, FunctionOf, BodyIs, Uses, Leads, LeadsTo, InText, HasMisfit, CallMisfits, StandsAt, CallsHostInside, IsImportNumber, Chain, enable_misfits, host_misfits, function_misfits}
+use Rattle.el_design.specs.Calls.{IsImpure, IsRecursive, Routine, TaskOf, FunctionOf, BodyIs, Uses, Leads, LeadsTo, InText, HasMisfit, CallMisfits, StandsAt, CallsHostInside, IsImportNumber, Chain, enable_misfits, host_misfits, function_misfits, import_misfits}
 use Rattle.el_design.specs.Rules as rules
 use Rattle.el_design.specs.Rules.{IsFinite, NestsTooDeep, max_u, max_nesting}
 use Rattle.el_design.proofs.OrderLists.{con_all}
 use Rattle.el_design.proofs.OrderPlaces.{con_got, con_map, con_flat}
-use Rattle.el_design.proofs.WaysPuts.{left_of, right_of, not_so, clash}
+use Rattle.el_design.proofs.WaysPuts.{left_of, right_of, one_of, not_so, clash}
 use Rattle.el_design.proofs.Texts.{holds_is}
 
 -- each element with its number passes
@@ -166,20 +166,29 @@ module _ (d : Flat) where
   -- ---- arguments (rule 52) and calls of the host (rule 62)
 
   abbrev pub call_fits : Expr → Bool
-  call_fits (Call s f es) = not (function_misfits (slice_get d.funcs f) es) && ltb f (length d.funcs)
+  call_fits (Call s f es) = not (function_misfits (slice_get d.funcs f) es) && (ltb f (length d.funcs) || not (import_misfits (slice_get d.imports (f - length d.funcs)) es))
   call_fits e = true
 
   no_import : {f i : ℕ} → IsImportNumber d f i → f < length d.funcs → ⊥
   no_import (calls.import_number e) l = omega (arith, e, l)
 
+  behind : {f i : ℕ} → IsImportNumber d f i → f - length d.funcs ≡ i
+  behind (calls.import_number e) = omega (arith, e)
+
   none_misfits : (c : Expr) → call_fits c ≡ true → CallMisfits d c → ⊥
   none_misfits _ h (calls.of_function {f = f} {es = es} m) =
-      clash (function_misfits (slice_get d.funcs f) es) m (not_so (function_misfits (slice_get d.funcs f) es) (left_of (not (function_misfits (slice_get d.funcs f) es)) (ltb f (length d.funcs)) h))
-  none_misfits _ h (calls.of_import {f = f} {es = es} n m) =
-      no_import n (ltb-true f (length d.funcs) (right_of (not (function_misfits (slice_get d.funcs f) es)) (ltb f (length d.funcs)) h))
+      clash (function_misfits (slice_get d.funcs f) es) m (not_so (function_misfits (slice_get d.funcs f) es)
+      (left_of (not (function_misfits (slice_get d.funcs f) es)) (ltb f (length d.funcs) || not (import_misfits (slice_get d.imports (f - length d.funcs)) es)) h))
+  none_misfits _ h (calls.of_import {f = f} {i = i} {es = es} n m) =
+      go (one_of (ltb f (length d.funcs)) (not (import_misfits (slice_get d.imports (f - length d.funcs)) es))
+      (right_of (not (function_misfits (slice_get d.funcs f) es)) (ltb f (length d.funcs) || not (import_misfits (slice_get d.imports (f - length d.funcs)) es)) h))
+    where
+      go : (ltb f (length d.funcs) ≡ true) ⊎ (not (import_misfits (slice_get d.imports (f - length d.funcs)) es) ≡ true) → ⊥
+      go (inl l) = no_import n (ltb-true f (length d.funcs) l)
+      go (inr k) = clash (import_misfits (slice_get d.imports i) es) m (subst (λ j. import_misfits (slice_get d.imports j) es ≡ false) (behind n) (not_so (import_misfits (slice_get d.imports (f - length d.funcs)) es) k))
 
   abbrev pub calls_fit : Expr → Bool
-  calls_fit e = list_all call_fits (nodes_of e) && list_all (λ f. ltb f (length d.funcs)) (calls_in e)
+  calls_fit e = list_all call_fits (nodes_of e)
 
   abbrev pub arguments_fit : Statement → Bool
   arguments_fit (Enable at t ins outs) = not (enable_misfits (slice_get d.tasks t) ins outs)
@@ -208,12 +217,23 @@ module _ (d : Flat) where
   none_misfit h at (calls.misfit_host {f = f} {ins = ins} {result = result} {outs = outs} i m) =
       clash (host_misfits (slice_get d.imports f) ins result outs) m (not_so (host_misfits (slice_get d.imports f) ins result outs) (con_all arguments_fit all_text (Host at f ins result outs) h.0 (in_all i)))
   none_misfit h at (calls.misfit_call {e = e} {c = c} s n m) =
-      none_misfits c (con_all call_fits (nodes_of e) c (left_of (list_all call_fits (nodes_of e)) (list_all (λ f. ltb f (length d.funcs)) (calls_in e)) (stands_fit h s)) n) m
+      none_misfits c (con_all call_fits (nodes_of e) c (stands_fit h s) n) m
 
-  no_host : (e : Expr) {f i : ℕ} → calls_fit e ≡ true → Contains (calls_in e) f → IsImportNumber d f i → ⊥
-  no_host e {f = f} h c n =
-      no_import n (ltb-true f (length d.funcs) (con_all (λ f. ltb f (length d.funcs)) (calls_in e) f (right_of (list_all call_fits (nodes_of e)) (list_all (λ f. ltb f (length d.funcs)) (calls_in e)) h) c))
+  abbrev pub calls_own : Expr → Bool
+  calls_own e = list_all (λ f. ltb f (length d.funcs)) (calls_in e)
 
-  pub none_inside : ArgumentsFit → (at : Place) → CallsHostInside d at → ⊥
-  none_inside h _ (calls.inside_statement {e = e} m c k n) = no_host e (text_fits h (placed_in_all m) c) k n
-  none_inside h _ (calls.inside_net {e = e} c i k n) = no_host e (net_fits h c i) k n
+  abbrev pub value_calls_own : FlatNet → Bool
+  value_calls_own n = elim n.value [ None ↦ true | Some e ↦ calls_own e ]
+
+  -- expressions call functions alone
+  abbrev pub FunctionsAlone : Type 0
+  FunctionsAlone = (list_all (λ x. list_all calls_own (own_expressions x)) all_text ≡ true) × (list_all value_calls_own d.nets ≡ true)
+
+  no_host : (e : Expr) {f i : ℕ} → calls_own e ≡ true → Contains (calls_in e) f → IsImportNumber d f i → ⊥
+  no_host e {f = f} h c n = no_import n (ltb-true f (length d.funcs) (con_all (λ f. ltb f (length d.funcs)) (calls_in e) f h c))
+
+  pub none_inside : FunctionsAlone → (at : Place) → CallsHostInside d at → ⊥
+  none_inside h _ (calls.inside_statement {x = x} {e = e} m c k n) =
+      no_host e (con_all calls_own (own_expressions x) e (con_all (λ x. list_all calls_own (own_expressions x)) all_text x h.0 (placed_in_all m)) c) k n
+  none_inside h _ (calls.inside_net {net = net} {e = e} c i k n) =
+      no_host e (subst (λ o. elim o [ None ↦ true | Some e ↦ calls_own e ] ≡ true) i (con_all value_calls_own d.nets net h.1 c)) k n

@@ -1,5 +1,5 @@
 -- A design with a task that waits, a `disable` across two enables, a counted loop, an import with an output, a memory, a function, and
--- two processes over a net. It is checked.
+-- two processes over a net. A task, the import and the function are each given an argument that is wider than what takes it. It is checked.
 -- All of it is this project's own.
 use Rattle.std.specs.Prelude.{ℕ, true, false, List, [], ◌∷◌, Some, None}
 use Rattle.xt_bits.specs.Word.{word}
@@ -8,7 +8,7 @@ use Rattle.el_design.specs.declared.designs.Port.{Port}
 use Rattle.el_design.specs.declared.designs.Import.{Import}
 use Rattle.el_design.specs.declared.designs.Source.TheVariants as source
 use Rattle.el_design.specs.declared.expressions.BinOp.TheVariants as op
-use Rattle.el_design.specs.Plain.{Shape, Expr, Number, NetValue, Variable, MemoryWord, Binary, Choice, Call, NoExpr, More, ToVariable, ToWord, Statement, Null, Block, Assign, If, For, While, Wait, Enable, Disable, Host, FlatNet, FlatTask, FlatFunc, FlatProc, Flat}
+use Rattle.el_design.specs.Plain.{Shape, Expr, Number, NetValue, Variable, MemoryWord, Binary, Choice, Concat, Call, NoExpr, More, ToVariable, ToWord, Statement, Null, Block, Assign, If, For, While, Wait, Enable, Disable, Host, FlatNet, FlatTask, FlatFunc, FlatProc, Flat}
 use Rattle.el_design.specs.Witnesses.{at, variable, input, eight, list}
 
 -- 1 module meter(
@@ -35,16 +35,16 @@ use Rattle.el_design.specs.Witnesses.{at, variable, input, eight, list}
 -- 22       disable txn;
 -- 23   end
 -- 24 endtask
--- 25 task fetch(output [7:0] o);
+-- 25 task fetch(input [7:0] more, output [7:0] o);
 -- 26   begin
 -- 27     until_up;
--- 28     o = d;
+-- 28     o = d + more;
 -- 29   end
 -- 30 endtask
 -- 31 always begin
 -- 32   begin : txn
--- 33     fetch(sample);
--- 34     answer = ask(sample, extra);
+-- 33     fetch(16'd256, sample);
+-- 34     answer = ask({8'd1, sample}, extra);
 -- 35     for (i = 0; i < 4; i = i + 1)
 -- 36       sums[i] = sums[i] + extra;
 -- 37     q <= larger(answer, sums[2]);
@@ -53,7 +53,7 @@ use Rattle.el_design.specs.Witnesses.{at, variable, input, eight, list}
 -- 40 end
 -- 41 always begin
 -- 42   @(posedge clk);
--- 43   peak <= larger(next, peak);
+-- 43   peak <= larger({1'b1, next}, peak);
 -- 44 end
 -- 45 endmodule
 
@@ -99,14 +99,18 @@ a_var = 8
 abbrev pub b_var : ℕ
 b_var = 9
 
+-- line 25: input [7:0] more
+abbrev pub more_var : ℕ
+more_var = 10
+
 -- line 25: output [7:0] o
 abbrev pub o_var : ℕ
-o_var = 10
+o_var = 11
 
 abbrev pub variables : List Var
 variables =
     variable 4 8 ∷ variable 5 8 ∷ variable 7 8 ∷ variable 8 8 ∷ variable 9 8 ∷ record (variable 10 8) { words = 4 } ∷ record (variable 11 32) { signed = true }
-    ∷ variable 13 8 ∷ variable 14 8 ∷ variable 15 8 ∷ variable 25 8 ∷ []
+    ∷ variable 13 8 ∷ variable 14 8 ∷ variable 15 8 ∷ variable 25 8 ∷ variable 25 8 ∷ []
 
 -- ---- expressions
 
@@ -116,8 +120,15 @@ one_bit = record { width = 1; signed = false }
 abbrev pub whole : Shape
 whole = record { width = 32; signed = true }
 
+abbrev pub shape : ℕ → Shape
+shape w = record { width = w; signed = false }
+
 abbrev pub byte : ℕ → Expr
 byte n = Number eight (word 8 n)
+
+-- one expression above another, of so many bits together
+abbrev pub joined : ℕ → Expr → Expr → Expr
+joined w a b = Concat (shape w) (More a (More b NoExpr))
 
 abbrev pub int : ℕ → Expr
 int n = Number whole (word 32 n)
@@ -180,13 +191,13 @@ until_up = record {
   body = until_up_loop;
 }
 
--- lines 25 to 30: task fetch(output [7:0] o); begin until_up; o = d; end endtask
+-- lines 25 to 30: task fetch(input [7:0] more, output [7:0] o); begin until_up; o = d + more; end endtask
 abbrev pub fetch : FlatTask
 fetch = record {
   mark = fetch_mark;
-  ins = [];
+  ins = more_var ∷ [];
   outs = o_var ∷ [];
-  body = Block (at 26) None (list (Enable (at 27) 0 [] [] ∷ Assign (at 28) (ToVariable o_var) d_value false ∷ []));
+  body = Block (at 26) None (list (Enable (at 27) 0 [] [] ∷ Assign (at 28) (ToVariable o_var) (Binary eight op.Add d_value (read more_var)) false ∷ []));
 }
 
 -- ---- processes
@@ -199,11 +210,11 @@ adds_extra = Assign (at 36) (ToWord sums_var i_value) (Binary eight op.Add (Memo
 abbrev pub four_turns : Statement
 four_turns = For (at 35) i_var (int 0) (Binary one_bit op.Lt i_value (int 4)) (Binary whole op.Add i_value (int 1)) adds_extra
 
--- lines 32 to 38: begin : txn fetch(sample); answer = ask(sample, extra); for .. q <= larger(answer, sums[2]); end
+-- lines 32 to 38: begin : txn fetch(16'd256, sample); answer = ask({8'd1, sample}, extra); for .. q <= larger(answer, sums[2]); end
 abbrev pub txn : Statement
 txn = Block (at 32) (Some txn_mark) (list (
-    Enable (at 33) 1 [] (ToVariable sample_var ∷ [])
-    ∷ Host (at 34) 0 (read sample_var ∷ []) (Some (ToVariable answer_var)) (ToVariable extra_var ∷ [])
+    Enable (at 33) 1 (Number (shape 16) (word 16 256) ∷ []) (ToVariable sample_var ∷ [])
+    ∷ Host (at 34) 0 (joined 16 (byte 1) (read sample_var) ∷ []) (Some (ToVariable answer_var)) (ToVariable extra_var ∷ [])
     ∷ four_turns
     ∷ Assign (at 37) (ToVariable q_var) (larger_of (read answer_var) (MemoryWord eight sums_var (int 2))) true
     ∷ []))
@@ -212,11 +223,11 @@ txn = Block (at 32) (Some txn_mark) (list (
 abbrev pub asking : FlatProc
 asking = record { always = true; body = Block (at 31) None (list (txn ∷ Wait (at 39) false ∷ [])); place = at 31 }
 
--- lines 41 to 44: always begin @(posedge clk); peak <= larger(next, peak); end
+-- lines 41 to 44: always begin @(posedge clk); peak <= larger({1'b1, next}, peak); end
 abbrev pub keeping_peak : FlatProc
 keeping_peak = record {
   always = true;
-  body = Block (at 41) None (list (Wait (at 42) false ∷ Assign (at 43) (ToVariable peak_var) (larger_of (NetValue eight 2) (read peak_var)) true ∷ []));
+  body = Block (at 41) None (list (Wait (at 42) false ∷ Assign (at 43) (ToVariable peak_var) (larger_of (joined 9 (Number one_bit (word 1 1)) (NetValue eight 2)) (read peak_var)) true ∷ []));
   place = at 41;
 }
 

@@ -1,4 +1,5 @@
--- Each operator once, with the value that the standard gives, or that follows from its words. The rows of `mentioned` stand in the standard as they are.
+-- Each operator once, with the value that the standard gives, or that follows from its words. The rows of `mentioned` are values that the standard gives; its numbers with
+-- a sign are written here as an operator on a number.
 use Rattle.std.specs.Prelude.{ℕ, List, [], ◌∷◌, ◌++◌, zip}
 use Rattle.xt_bits.specs.Word.{Word, word}
 use Rattle.el_design.specs.declared.expressions.UnOp.{UnOp}
@@ -237,6 +238,9 @@ names =
     ∷ (Select (u 4) (Variable (u 8) h_var) (Up (sn 32 10) 4) 4, word 4 0b0010)
     ∷ (Select (u 4) (Variable (u 8) h_var) (Down (sn 32 5) 4) 4, word 4 0b0100)
     ∷ (word_of_m (sn 32 2), word 8 0x11) ∷ (word_of_m (sn 32 5), word 8 0x44) ∷ (word_of_m (sn 32 6), word 8 0) ∷ (word_of_m (sn 32 1), word 8 0)
+    -- a[-1 +: 4] and a[2 -: 4] with a that holds 4: bit -1 lies outside, and an index has its own sign
+    ∷ (Select (u 4) (Variable (u 8) a_var) (Up (Number (s 32) (minus 32 1)) 4) 0, word 4 0b1000)
+    ∷ (Select (u 4) (Variable (u 8) a_var) (Down (sn 32 2) 4) 0, word 4 0b1000)
     -- a part of a word, and a call: f(8'd200) is 200 + 100 in 8 bits
     ∷ (Select (u 4) (word_of_m (sn 32 3)) (Part 3 0) 0, word 4 2)
     ∷ (Call (u 8) 0 (More (un 8 200) NoExpr), word 8 44)

@@ -56,6 +56,13 @@ wire line e = record (input line 8) { value = Some e }
 abbrev pub design : List Var → List FlatNet → List FlatProc → Flat
 design vars nets procs = record { vars = vars; nets = nets; tasks = []; funcs = []; imports = []; procs = procs; marks = 0; inputs = []; outputs = []; head = at 1 }
 
+-- imports without arguments: `function void h();` and `function byte unsigned h();`
+abbrev pub void : Import
+void = record { name = []; ins = []; outs = []; result = None }
+
+abbrev pub giving : Import
+giving = record void { result = Some (record { width = 8; signed = false }) }
+
 -- ---- rule 50: what a function may do
 
 -- 1 module m;
@@ -83,6 +90,28 @@ waits_inside = with_function (assign 6 1 (read 2) ∷ wait 7 ∷ [])
 -- 6 f = y; 7 f = x;   against   7 f = y;
 abbrev pub names_outside : Flat
 names_outside = with_function (assign 6 1 (read 2) ∷ assign 7 1 (read 0) ∷ [])
+
+-- 6 f = y; 7 t;, where t is a task of the module
+abbrev pub enables_inside : Flat
+enables_inside = record (with_function (assign 6 1 (read 2) ∷ enable 7 0 ∷ [])) { tasks = record { mark = 0; ins = []; outs = []; body = Null } ∷ []; marks = 1 }
+
+-- 6 f = y; 7 h();, where h is a void import
+abbrev pub calls_inside : Flat
+calls_inside = record (with_function (assign 6 1 (read 2) ∷ Host (at 7) 0 [] None [] ∷ [])) { imports = void ∷ [] }
+
+-- 6 f = y; 7 f = n;, where n is an input of the module
+abbrev pub names_net : Flat
+names_net = record (with_function (assign 6 1 (read 2) ∷ assign 7 1 (NetValue (u 8) 0) ∷ [])) { nets = input 2 8 ∷ [] }
+
+-- 6 f = y; 7 f = h();, where h is an import, whose number is 1
+abbrev pub names_import : Flat
+names_import = record (with_function (assign 6 1 (read 2) ∷ assign 7 1 (Call (u 8) 1 NoExpr) ∷ [])) { imports = giving ∷ [] }
+
+-- reg [7:0] v; 6 v = y; 7 f = v;, of the module   against   of the function
+abbrev pub with_variable : List ℕ → Flat
+with_variable locals = record (design (variable 2 8 ∷ variable 3 8 ∷ variable 4 8 ∷ variable 5 8 ∷ []) [] []) {
+  funcs = record { ins = 2 ∷ []; locals = locals; result = 1; body = block 5 (assign 6 3 (read 2) ∷ assign 7 1 (read 3) ∷ []) } ∷ [];
+}
 
 -- 6 f = f + y;, at the name of the function   against   6 f = y; 7 f = f + y;
 abbrev pub reads_early : Flat
@@ -152,24 +181,21 @@ enables_with ins = record (design (variable 2 8 ∷ variable 4 8 ∷ []) [] (ini
 -- 4   output [7:0] y);
 -- 5   y = 8'd1; endtask
 -- 6 initial
--- 7   t(x + 8'd1); endmodule   against   7 t(x);
-abbrev pub copies_to : Lvalue → Flat
-copies_to to = record (design (variable 2 8 ∷ variable 4 8 ∷ []) [] (initial 6 (Enable (at 7) 0 [] (to ∷ [])) ∷ [])) {
+-- 7   t(x + 8'd1); endmodule   against   7 t(x);   and   7 t;
+abbrev pub copies_all : List Lvalue → Flat
+copies_all outs = record (design (variable 2 8 ∷ variable 4 8 ∷ []) [] (initial 6 (Enable (at 7) 0 [] outs) ∷ [])) {
   tasks = record { mark = 0; ins = []; outs = 1 ∷ []; body = assign 5 1 (byte 1) } ∷ [];
   marks = 1;
 }
+
+abbrev pub copies_to : Lvalue → Flat
+copies_to to = copies_all (to ∷ [])
 
 -- 1 module m;
 -- 2 reg [7:0] x;
 -- 3 import "DPI-C" function void h();   or   byte unsigned h()
 -- 4 initial
 -- 5   h(8'd1);   against   5 h();   and   5 x = h();   against the same with a result
-abbrev pub void : Import
-void = record { name = []; ins = []; outs = []; result = None }
-
-abbrev pub giving : Import
-giving = record void { result = Some (record { width = 8; signed = false }) }
-
 abbrev pub calls_host : Import → Statement → Flat
 calls_host f body = record (design (variable 2 8 ∷ []) [] (initial 4 body ∷ [])) { imports = f ∷ [] }
 
@@ -215,6 +241,20 @@ with_block second = record (with_function (named 5 0 (assign 6 1 (read 2) ∷ se
 abbrev pub beside_block : Statement → Statement → Flat
 beside_block own other = record (design (variable 2 8 ∷ []) [] (initial 3 (named 4 0 (assign 5 0 (byte 1) ∷ own ∷ [])) ∷ initial 7 other ∷ [])) { marks = 1 }
 
+-- 1 module m;
+-- 2 reg [7:0] x;
+-- 3 task t;
+-- 4   begin : b
+-- 5     x = 8'd1; end endtask
+-- 6 initial begin
+-- 7   ;                       against   7 t;
+-- 8   disable t.b; end endmodule
+abbrev pub idle_task : FlatTask
+idle_task = record { mark = 0; ins = []; outs = []; body = named 4 1 (assign 5 0 (byte 1) ∷ []) }
+
+abbrev pub disables_in_task : Statement → Flat
+disables_in_task first = record (design (variable 2 8 ∷ []) [] (initial 6 (block 6 (first ∷ Disable (at 8) 1 ∷ [])) ∷ [])) { tasks = idle_task ∷ []; marks = 2 }
+
 -- 1 module m(input clk);
 -- 2 task t;
 -- 3   begin : b
@@ -239,7 +279,7 @@ host_inside = assign 5 0 (plus bare_call (byte 1))
 -- 1 module m;
 -- 2 reg [7:0] x;
 -- 3 import "DPI-C" function byte unsigned h();
--- 4 wire [7:0] n = h();   against   4 wire [7:0] n = x;   and for rule 52 the same of a void h
+-- 4 wire [7:0] n = h();   against   4 wire [7:0] n = x;   and for rule 52 of a void h, and n = h(8'd1) against n = h()
 abbrev pub net_of : Import → Expr → Flat
 net_of f e = record (design (variable 2 8 ∷ []) (wire 4 e ∷ []) []) { imports = f ∷ [] }
 

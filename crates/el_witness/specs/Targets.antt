@@ -1,9 +1,9 @@
 -- Each form of target once (IEEE 1364-2005, 9.2 and 5.2; what lies outside isn't stored, which is this project's own).
 use Rattle.std.specs.Prelude.{ℕ, true, false, List, [], ◌∷◌}
 use Rattle.xt_bits.specs.Word.{word}
-use Rattle.el_design.specs.Plain.{Variable, Bit, Part, Up, Down, Lvalue, ToVariable, ToPart, ToWord, ToWordPart, Both, Nowhere}
+use Rattle.el_design.specs.Plain.{Number, Variable, Bit, Part, Up, Down, Lvalue, ToVariable, ToPart, ToWord, ToWordPart, Both, Nowhere}
 use Rattle.el_design.specs.Store.{Store}
-use Rattle.el_witness.specs.Bench.{Stores, Copies, a_var, h_var, m_var, b_var, u, un, sn, holding}
+use Rattle.el_witness.specs.Bench.{Stores, Copies, a_var, h_var, m_var, b_var, u, s, un, sn, minus, holding}
 
 -- what `a`, `h`, `m` and `b` hold before
 abbrev pub before_a : ℕ
@@ -47,6 +47,8 @@ targets =
     ∷ (ToPart h_var (Down (sn 32 7) 4), un 4 0xc, h_is 0xac)
     ∷ (ToPart h_var (Up (sn 32 10) 4), un 4 0b0001, h_is 0x65)
     ∷ (ToPart h_var (Down (sn 32 5) 4), un 4 0b1011, h_is 0xa6)
+    -- a[-1 +: 4] = 4'hf, of which bit -1 lies outside
+    ∷ (ToPart a_var (Up (Number (s 32) (minus 32 1)) 4), un 4 0xf, a_is 0x07)
     -- m[3] = 8'h55; m[b] = 8'h66; and m[1] = 8'h77, m[6] = 8'h77, which lie outside
     ∷ (ToWord m_var (sn 32 3), un 8 0x55, m_is (0x11 ∷ 0x55 ∷ 0x33 ∷ 0x44 ∷ []))
     ∷ (ToWord m_var (Variable (u 8) b_var), un 8 0x66, m_is (0x66 ∷ 0x22 ∷ 0x33 ∷ 0x44 ∷ []))

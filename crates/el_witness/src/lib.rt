@@ -7,7 +7,7 @@ mod loops;
 mod rows;
 mod rules;
 
-pub use designs::{longest_loop_is_checked, meter_is_checked, meter_runs};
+pub use designs::{longest_loop_is_checked, meter_is_checked, meter_runs, meter_tells};
 pub use loops::{nesting_of_routines, sizes_of_designs, turns_of_loops, walks_without_waits};
 pub use rows::{operators_are_right, targets_are_right};
 pub use rules::{

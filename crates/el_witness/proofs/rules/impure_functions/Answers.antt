@@ -15,3 +15,18 @@ returns-clause-reads_early c = row.reads_early
 
 pub returns-clause-leaves_result : goal.returns-clause-leaves_result
 returns-clause-leaves_result c = row.leaves_result
+
+pub returns-clause-enables_inside : goal.returns-clause-enables_inside
+returns-clause-enables_inside c = row.enables_inside
+
+pub returns-clause-calls_inside : goal.returns-clause-calls_inside
+returns-clause-calls_inside c = row.calls_inside
+
+pub returns-clause-names_net : goal.returns-clause-names_net
+returns-clause-names_net c = row.names_net
+
+pub returns-clause-names_import : goal.returns-clause-names_import
+returns-clause-names_import c = row.names_import
+
+pub returns-clause-of_the_module : goal.returns-clause-of_the_module
+returns-clause-of_the_module c = row.of_the_module

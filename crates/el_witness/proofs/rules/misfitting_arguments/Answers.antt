@@ -24,3 +24,9 @@ returns-clause-bare_in_net c = row.bare_in_net
 
 pub returns-clause-void_in_net : goal.returns-clause-void_in_net
 returns-clause-void_in_net c = row.void_in_net
+
+pub returns-clause-no_output : goal.returns-clause-no_output
+returns-clause-no_output c = row.no_output
+
+pub returns-clause-import_too_many : goal.returns-clause-import_too_many
+returns-clause-import_too_many c = row.import_too_many

@@ -9,3 +9,6 @@ returns-clause-of_other c = row.of_other
 
 pub returns-clause-of_two : goal.returns-clause-of_two
 returns-clause-of_two c = row.of_two
+
+pub returns-clause-of_none : goal.returns-clause-of_none
+returns-clause-of_none c = row.of_none
