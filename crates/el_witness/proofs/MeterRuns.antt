@@ -1,6 +1,5 @@
 -- The run of the meter that takes the first event each time, and that every other run has its trace.
 use Rattle.std.proofs.Common.{◌≡◌, ◌<◌, ◌^◌, ℕ, List, [], ◌∷◌, refl, arith}
-use Rattle.xt_bits.specs.Word.{Word}
 use Rattle.xt_bits.specs.Word as words
 use Rattle.xt_bits.specs.Operators as operators
 use Rattle.xt_bits.specs.Trace.{Trace}

@@ -7,7 +7,7 @@ use Rattle.xt_bits.specs.Trace.{Trace}
 use Rattle.el_design.specs.Plain.{FlatNet, Flat}
 use Rattle.el_design.specs.Store.{Store, start_store}
 use Rattle.el_design.specs.Queue.{Config, scene_of, net_aim, Event, take, ready, is_stuck, is_empty, IsAtRest}
-use Rattle.el_design.specs.Run.{IsSettled, started, woken, Starts, Continues, Takes, Any, First, Goes, Runs, rest_seen}
+use Rattle.el_design.specs.Run.{IsSettled, started, woken, Takes, Any, First, Goes, Runs, rest_seen}
 use Rattle.el_design.specs.Queue.{Telling}
 use Rattle.el_design.specs.Laws.{EdgeBegins}
 use Rattle.el_design.specs.Laws as edges

@@ -4,7 +4,6 @@ use Rattle.el_design.specs.declared.designs.Import.{Import}
 use Rattle.el_design.specs.declared.designs.Port.{Port}
 use Rattle.el_design.specs.Plain.{Statement, Enable, Host, FlatProc, Flat}
 use Rattle.el_design.proofs.Sample.{at, block, posedge, design}
-use Rattle.nt_core.specs.HostLine.{HostLine}
 use Rattle.xt_compile.specs.Hardware.{hosts_of}
 
 abbrev bits : ℕ → Port

@@ -1,19 +1,17 @@
 -- The imports that processes call, and the pins for their calls.
-use Rattle.std.proofs.Common.{◌≡◌, ◌⊎◌, inl, inr, ℕ, zero, suc, ◌+◌, List, [], ◌∷◌, ◌++◌, Option, Some, None, Contains, flat_map, slice_get, length, map, refl, sym, ◌∙◌, ap, ap₂, subst}
+use Rattle.std.proofs.Common.{◌≡◌, ◌⊎◌, inl, inr, ℕ, zero, suc, ◌+◌, List, [], ◌∷◌, ◌++◌, Option, Some, None, Contains, flat_map, slice_get, length, refl, sym, ◌∙◌, ap₂, subst}
 use Rattle.std.specs.List.{enumerate_from, filter_map}
 use Rattle.std.proofs.lemmas.List.Elements.{Contains-append_cases}
 use Rattle.xt_base.specs.declared.refusals.Place.{Place}
 use Rattle.el_design.specs.Calls as calls
 use Rattle.el_design.specs.Plain.{Expr, Lvalue, Statement, Null, Skip, Seq, Block, Assign, If, Case, Arm, For, While, Repeat, Forever, Wait, Enable, Disable, Host, FlatTask, FlatProc, Flat}
-use Rattle.el_design.specs.InPlace.{InPlace, in_text, in_body, HasInPlace}
+use Rattle.el_design.specs.InPlace.{InPlace, in_text, in_body}
 use Rattle.el_design.specs.Rules.{IsFinite}
 use Rattle.el_design.specs.Texts.{texts}
 use Rattle.el_design.proofs.Nested.{made_of_task}
 use Rattle.el_design.proofs.OrderLists.{con_nil, con_head, con_tail, con_cases}
 use Rattle.el_design.proofs.OrderPlaces.{con_flat}
-use Rattle.nt_core.specs.FunctionLine.{FunctionLine}
-use Rattle.nt_core.specs.HostLine.{HostLine}
-use Rattle.xt_compile.specs.Hardware.{called_by, called_in, called_in_task, called_in_place, host_of, functions_called, hosts_of, function_of, CallsImport, calls_import, CallsAreListed}
+use Rattle.xt_compile.specs.Hardware.{called_by, called_in, called_in_task, called_in_place, host_of, functions_called, hosts_of, CallsImport, calls_import, CallsAreListed}
 
 -- ---- lists
 

@@ -1,6 +1,6 @@
 -- How a run ends, from what was found and what was written of it.
 use Rattle.std.proofs.Common.{◌≡◌, ◌≢◌, ◌⊎◌, inl, inr, refl, subst, sym, ap, ◌∙◌, ℕ, List, [], Option, Some, None, append-nil}
-use Rattle.std.specs.Prelude.{Result, Ok, Err, IsSome}
+use Rattle.std.specs.Prelude.{Result, Ok, Err}
 use Rattle.xt_base.specs.Outside.{appended}
 use Rattle.nt_core.specs.Parts.{Parts}
 use Rattle.nt_core.specs.Text.{text_of}
@@ -15,6 +15,7 @@ use Rattle.xt_top.specs.declared.status.Status.TheVariants.{Done}
 use Rattle.xt_top.specs.Answer.{Answers, MayLeave}
 use Rattle.xt_top.specs.Command.{Request, request_of, compile}
 use Rattle.xt_top.specs.Ends.{Stream, Outside, Took, Writes, whole, text_cut, note_cut, Ends, answered, file_fault, no_memory}
+use Rattle.xt_top.specs.Loads.{LoadsFiles}
 use Rattle.xt_top.specs.Note.{line_of, status_of}
 use Rattle.xt_top.specs.inner.Works.{Finds, NothingWritten, Puts, PutsText, Stops, Tells, text_in}
 
@@ -64,11 +65,11 @@ may_leave_nothing (Some (compile s)) = refl
 
 module _ (words : List (List ℕ)) (old new : Outside) (status : Status) where
   abbrev Ended : Type 0
-  Ended = Ends (Answers words old.files.held) (IsSome (request_of words)) (MayLeave (request_of words)) old new status
+  Ended = Ends (Answers words old.files.held) (LoadsFiles (request_of words)) (MayLeave (request_of words)) old new status
 
   without_memory : NothingWritten old.out new.out old.notes new.notes status → Ended
   without_memory (is, same_out, same_notes) =
-      subst (Ends (Answers words old.files.held) (IsSome (request_of words)) (MayLeave (request_of words)) old new) (sym is)
+      subst (Ends (Answers words old.files.held) (LoadsFiles (request_of words)) (MayLeave (request_of words)) old new) (sym is)
       (no_memory [] (may_leave_nothing (request_of words)) (took_nothing old.out new.out same_out) same_notes)
 
   noted : (note : Note) → Stops words old.files.held old.files.faults new.files.faults (stops.Note note) → Writes (status_of note) (line_of note) [] old.out new.out old.notes new.notes status → Ended

@@ -8,3 +8,4 @@ pub mod Finding
 pub mod Ending
 pub mod Whole
 pub mod Rows
+pub mod FileRows

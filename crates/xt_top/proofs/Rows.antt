@@ -1,19 +1,43 @@
 -- The answers of a run and their causes, row by row, as they follow from its contract.
-use Rattle.std.proofs.Common.{◌≡◌, ◌≢◌, ◌⊎◌, inl, inr, ◌<◌, refl, sym, subst, ap, ◌∙◌, ◌++◌, append-nil, arith, true, false, ℕ, List, [], ◌∷◌, Option, Some, None}
-use Rattle.std.specs.Prelude.{IfSome, IsSome, IsSomeAnd, codes}
+use Rattle.std.proofs.Common.{◌≡◌, ◌≢◌, ◌⊎◌, inl, inr, ◌<◌, refl, sym, subst, ap, ◌∙◌, ◌++◌, append-nil, arith, ℕ, List, [], ◌∷◌, Option, Some, None}
+use Rattle.std.specs.Prelude.{Result, Ok, Err, IfSome, IsSomeAnd, IsTrue, codes, replicate}
 use Rattle.xt_base.specs.Outside.{Held, HasFault}
+use Rattle.xt_bits.specs.Stimulus.{Stimulus}
+use Rattle.xt_bits.specs.Trace.{Trace}
 use Rattle.xt_base.specs.declared.refusals.Refusal.{Refusal}
+use Rattle.vl_pre.specs.Directives as directives
+use Rattle.vl_pre.specs.Faults as pre
 use Rattle.vl_pre.specs.Faults.{AskedInOrder}
+use Rattle.vl_pre.specs.Files.{Reading, Stop}
+use Rattle.vl_pre.specs.Text.{Expanded}
+use Rattle.vl_lex.specs.Refusals.{no_token}
+use Rattle.vl_lex.specs.Tokens.{AreTokens, FailsAt}
+use Rattle.vl_lex.specs.declared.kinds.Token.{Token}
+use Rattle.vl_tree.specs.declared.modules.Tree.{Tree}
+use Rattle.vl_expr.specs.Refusals.{IsNoTree}
+use Rattle.nt_core.specs.Conditions.{IsNetlist}
+use Rattle.nt_core.specs.DesignRun.{IsDesignTrace}
+use Rattle.nt_core.specs.Parts.{Parts}
+use Rattle.nt_core.specs.Text.{text_of}
+use Rattle.el_design.specs.declared.designs.Design.{Design}
+use Rattle.el_design.specs.Run.{IsStimulus}
+use Rattle.el_design.specs.View.{flat_of}
+use Rattle.xt_compile.specs.Hardware.{HasOutside, AlwaysShows}
+use Rattle.xt_compile.specs.declared.first.source.Source.{Source}
 use Rattle.xt_compile.proofs.first_form.Somes.{none_some}
 use Rattle.xt_top.specs.declared.status.Status.{Status}
 use Rattle.xt_top.specs.declared.status.Status.TheVariants.{Done, Memory, Usage, Refused, BadDesign, BadRecord, Differs, ReadFault, WriteFault}
 use Rattle.xt_top.specs.Answer.{Answers, IsDone, IsReady, MayLeave, no_command, not_held, refused, done}
-use Rattle.xt_top.specs.Breaks.{IsBroken}
-use Rattle.xt_top.specs.Command.{Request, compile, request_of, source_words}
-use Rattle.xt_top.specs.Ends.{Outside, Took, Failed, Writes, whole, text_cut, note_cut, Ends, answered, file_fault, no_memory, IsRun}
-use Rattle.xt_top.specs.Loads.{AreHeld, IsMissing, loads_of}
+use Rattle.xt_top.specs.Breaks.{FirstBreak, at_byte, at_token, out_of_form, not_of_form, IsBroken, in_expansion}
+use Rattle.xt_top.specs.Command.{Request, SourceWords, compile, request_of, source_words}
+use Rattle.xt_top.specs.Ends.{Outside, Took, Failed, Writes, whole, text_cut, note_cut, Ends, answered, file_fault, no_memory, NoFault, IsWhole, IsRun}
+use Rattle.xt_top.specs.Loads.{AreHeld, IsMissing, LoadsFiles, takes_files, loads_after, loads_of, of_source}
 use Rattle.xt_top.specs.Note.{refused_line}
-use Rattle.xt_top.proofs.Verdict.{one_answer, ready_done}
+use Rattle.xt_top.specs.Sources.{HasTree, IsFormOf, IsSourceOf, IsTreeOf, expanded, read_from}
+use Rattle.xt_top.specs.Status.{number_of}
+use Rattle.xt_top.proofs.Judgement.{one_break}
+use Rattle.xt_top.proofs.Verdict.{broken_missing, one_answer, one_broken, ready_done}
+use Rattle.xt_top.proofs.Whole.{whole_answer}
 
 none_asked : (names rest : List (List ℕ)) → [] ≡ names ++ rest → names ≡ []
 none_asked [] rest is = refl
@@ -21,15 +45,33 @@ none_asked (name ∷ names) rest is = cc
 
 module _ (words : List (List ℕ)) (old new : Outside) where
   abbrev Ended : Status → Type 0
-  Ended = Ends (Answers words old.files.held) (IsSome (request_of words)) (MayLeave (request_of words)) old new
+  Ended = Ends (Answers words old.files.held) (LoadsFiles (request_of words)) (MayLeave (request_of words)) old new
 
   -- the answer stands whole on the streams
   abbrev Stands : Status → Type 0
   Stands status = (note : List ℕ) × (text : List ℕ) × Answers words old.files.held status note text × Took old.out new.out text × Took old.notes new.notes note
 
-  -- a stream took a prefix of what is its, with a fault, and the other is as it was
+  -- the note of an answer, or that of a fault of the files which was counted
+  abbrev IsNote : List ℕ → Type 0
+  IsNote note = ((status : Status) × Answers words old.files.held status note []) ⊎ ((note ≡ codes "read fault\n") × HasFault old.files.faults new.files.faults)
+
+  -- a stream took a prefix of what is its, with a fault, and the other is as it was: the output of the text that is the answer, or the notes of a note
   abbrev Cut : Type 0
-  Cut = ((text : List ℕ) × Failed old.out new.out text × (new.notes ≡ old.notes)) ⊎ ((note : List ℕ) × Failed old.notes new.notes note × (new.out ≡ old.out))
+  Cut =
+      ((text : List ℕ) × Answers words old.files.held Done [] text × Failed old.out new.out text × (new.notes ≡ old.notes))
+      ⊎ ((note : List ℕ) × IsNote note × Failed old.notes new.notes note × (new.out ≡ old.out))
+
+  text_is_done : (due : Status) (note text : List ℕ) → Answers words old.files.held due note text → text ≢ [] → Answers words old.files.held Done [] text
+  text_is_done due note text (no_command none) some = absurd (some refl)
+  text_is_done due note text (not_held r asked missing) some = absurd (some refl)
+  text_is_done due note text (refused r asked refusal file broken) some = absurd (some refl)
+  text_is_done due note text (done r asked bytes is) some = done r asked bytes is
+
+  note_alone : (due : Status) (note text : List ℕ) → Answers words old.files.held due note text → note ≢ [] → Answers words old.files.held due note []
+  note_alone due note text (no_command none) some = no_command none
+  note_alone due note text (not_held r asked missing) some = not_held r asked missing
+  note_alone due note text (refused r asked refusal file broken) some = refused r asked refusal file broken
+  note_alone due note text (done r asked bytes is) some = absurd (some refl)
 
   -- the output is as it was, and the notes have one line more
   abbrev Notes : List ℕ → Type 0
@@ -46,11 +88,11 @@ module _ (words : List (List ℕ)) (old new : Outside) where
 
   ways : (status : Status) → Ended status → Ways status
   ways status (answered due note text answers same ending (whole out notes)) = inl (note, text, answers, out, notes)
-  ways status (answered due note text answers same ending (text_cut some failed kept)) = inr (inr (inl (refl, inl (text, failed, kept))))
-  ways status (answered due note text answers same ending (note_cut some failed kept)) = inr (inr (inl (refl, inr (note, failed, kept))))
+  ways status (answered due note text answers same ending (text_cut some failed kept)) = inr (inr (inl (refl, inl (text, text_is_done due note text answers some, failed, kept))))
+  ways status (answered due note text answers same ending (note_cut some failed kept)) = inr (inr (inl (refl, inr (note, inl (due, note_alone due note text answers some), failed, kept))))
   ways status (file_fault loads fault ending (whole out notes)) = inr (inl (refl, fault, (out, notes)))
-  ways status (file_fault loads fault ending (text_cut some failed kept)) = inr (inr (inl (refl, inl ([], failed, kept))))
-  ways status (file_fault loads fault ending (note_cut some failed kept)) = inr (inr (inl (refl, inr (codes "read fault\n", failed, kept))))
+  ways status (file_fault loads fault ending (text_cut some failed kept)) = absurd (some refl)
+  ways status (file_fault loads fault ending (note_cut some failed kept)) = inr (inr (inl (refl, inr (codes "read fault\n", inr (refl, fault), failed, kept))))
   ways status (no_memory left leaves out notes) = inr (inr (inr (refl, subst (Took old.out new.out) (leaves_nothing (request_of words) left leaves) out, notes)))
 
   stands : (status : Status) → status ≢ ReadFault → status ≢ WriteFault → status ≢ Memory → Ended status → Stands status
@@ -68,6 +110,21 @@ module _ (words : List (List ℕ)) (old new : Outside) where
   done_row run = by (stands Done (λ e. cc) (λ e. cc) (λ e. cc) run) where
     by : Stands Done → (r : Request) × (text : List ℕ) × (request_of words ≡ Some r) × IfSome old.files.held (λ h. AreHeld h r × IsDone h r text) × Took old.out new.out text × Took old.notes new.notes []
     by (note, text, done r asked bytes is, out, notes) = (r, text, asked, is, out, notes)
+
+  -- and the text is a netlist's, with the outside of the one design of the source, and with the trace that the event queue always shows
+  hardware_row : (h : Held) → old.files.held ≡ Some h → Ended Done → (s : SourceWords) × (d : Design) × (text : List ℕ) × (n : Parts) × (request_of words ≡ Some (compile s)) × IsSourceOf h s d
+      × IsNetlist n × (text ≡ text_of n) × HasOutside d n × ((x : Stimulus) → IsStimulus (flat_of d) x → (t : Trace) × IsDesignTrace n x t × AlwaysShows (flat_of d) x t)
+      × Took old.out new.out text × Took old.notes new.notes []
+  hardware_row h told run = by (done_row run) where
+    of_done : (r : Request) (text : List ℕ) → request_of words ≡ Some r → IsDone h r text → Took old.out new.out text × Took old.notes new.notes [] → (s : SourceWords) × (d : Design) × (text : List ℕ) × (n : Parts) × (request_of words ≡ Some (compile s)) × IsSourceOf h s d
+        × IsNetlist n × (text ≡ text_of n) × HasOutside d n × ((x : Stimulus) → IsStimulus (flat_of d) x → (t : Trace) × IsDesignTrace n x t × AlwaysShows (flat_of d) x t)
+        × Took old.out new.out text × Took old.notes new.notes []
+    of_done (compile s) text asked (d, is, hardware) (out, notes) = (s, d, text, hardware.netlist, asked, is, hardware.is_netlist, hardware.text, hardware.outside, hardware.same_trace, out, notes)
+
+    by : (r : Request) × (text : List ℕ) × (request_of words ≡ Some r) × IfSome old.files.held (λ h. AreHeld h r × IsDone h r text) × Took old.out new.out text × Took old.notes new.notes [] → (s : SourceWords) × (d : Design) × (text : List ℕ) × (n : Parts) × (request_of words ≡ Some (compile s)) × IsSourceOf h s d
+        × IsNetlist n × (text ≡ text_of n) × HasOutside d n × ((x : Stimulus) → IsStimulus (flat_of d) x → (t : Trace) × IsDesignTrace n x t × AlwaysShows (flat_of d) x t)
+        × Took old.out new.out text × Took old.notes new.notes []
+    by (r, text, asked, is, out, notes) = let both : AreHeld h r × IsDone h r text = subst (λ o. IfSome o (λ h. AreHeld h r × IsDone h r text)) told is in of_done r text asked both.1 (out, notes)
 
   -- Usage: the words are no command
   usage_row : Ended Usage → (request_of words ≡ None) × Notes (codes "usage\n")
@@ -106,7 +163,7 @@ module _ (words : List (List ℕ)) (old new : Outside) where
     by (inr (inr (inl (is, cut)))) = cc
     by (inr (inr (inr (is, out, notes)))) = cc
 
-  -- WriteFault: a fault of a stream was counted, and that stream took a prefix of what is its
+  -- WriteFault: a fault of a stream was counted, and that stream took a prefix of what is its: the answer's text or note, or the note of a fault of the files
   write_fault_row : Ended WriteFault → Cut
   write_fault_row run = by (ways WriteFault run) where
     by : Ways WriteFault → Cut
@@ -154,9 +211,37 @@ module _ (words : List (List ℕ)) (old new : Outside) where
     missing_row : (r : Request) → request_of words ≡ Some r → IsMissing h r → (status : Status) → Ended status → Comes ReadFault status
     missing_row r asked missing = comes ReadFault (told_sole ReadFault (codes "read fault\n") (not_held r asked missing))
 
-    -- a source that breaks a rule
-    broken_row : (r : Request) → request_of words ≡ Some r → (refusal : Refusal) (file : List ℕ) → IsBroken h r refusal file → (status : Status) → Ended status → Comes Refused status
-    broken_row r asked refusal file broken = comes Refused (told_sole Refused (refused_line refusal.rule.0 file refusal.place.line) (refused r asked refusal file broken))
+    -- a source that breaks a rule: the line names this break
+    broken_line : (r : Request) → request_of words ≡ Some r → (refusal : Refusal) (file : List ℕ) → IsBroken h r refusal file → Ended Refused → Notes (refused_line refusal.rule.0 file refusal.place.line)
+    broken_line r asked refusal file broken run = by (refused_row run) where
+      by : (q : Request) × (other : Refusal) × (name : List ℕ) × (request_of words ≡ Some q) × IfSome old.files.held (λ h. IsBroken h q other name) × Notes (refused_line other.rule.0 name other.place.line) → Notes (refused_line refusal.rule.0 file refusal.place.line)
+      by (q, other, name, asked', broken', notes) =
+          let there : IsBroken h q other name = subst (λ o. IfSome o (λ h. IsBroken h q other name)) told broken' in
+          subst Notes (one_answer words h Refused Refused (refused_line other.rule.0 name other.place.line) (refused_line refusal.rule.0 file refusal.place.line) [] [] (refused q asked' other name there) (refused r asked refusal file broken)).1 notes
+
+    broken_row : (r : Request) → request_of words ≡ Some r → (refusal : Refusal) (file : List ℕ) → IsBroken h r refusal file → (status : Status) → Ended status →
+        Comes Refused status × (status ≡ Refused → Notes (refused_line refusal.rule.0 file refusal.place.line))
+    broken_row r asked refusal file broken status run = (
+      comes Refused (told_sole Refused (refused_line refusal.rule.0 file refusal.place.line) (refused r asked refusal file broken)) status run,
+      λ is. broken_line r asked refusal file broken (subst Ended is run),
+    )
+
+    -- where no fault is counted, the answer that is due stands whole, or memory ran out
+    complete_row : NoFault old new → (due : Status) (note text : List ℕ) → Answers words (Some h) due note text → (status : Status) → IsRun words old new status →
+        (status ≡ Memory) ⊎ ((status ≡ due) × IsWhole words old new status × Took old.notes new.notes note)
+    complete_row calm due note text answers status run = by (whole_answer words old new status run calm) where
+      by : (status ≡ Memory) ⊎ IsWhole words old new status → (status ≡ Memory) ⊎ ((status ≡ due) × IsWhole words old new status × Took old.notes new.notes note)
+      by (inl memory) = inl memory
+      by (inr is) =
+          let one = one_answer words h status due is.note note is.text text (subst (λ o. Answers words o status is.note is.text) told is.answers) answers in
+          inr (one.0, is, subst (Took old.notes new.notes) one.1 is.notes)
+
+    -- what was asked for: the first of the loads of the source's expansion, in order; a name that isn't held is the last of these
+    loads_row : (s : SourceWords) → request_of words ≡ Some (compile s) → (status : Status) → IsRun words old new status → AskedInOrder old.files.asked new.files.asked (pre.loads_of (expanded h s))
+    loads_row s asked status run = subst (AskedInOrder old.files.asked new.files.asked) (expansion_loads (expanded h s)) (subst (λ o. AskedInOrder old.files.asked new.files.asked (loads_of o h)) asked (run.loads.asked h told)) where
+      expansion_loads : (read : Result Reading Stop) → loads_after h [] read ≡ pre.loads_of read
+      expansion_loads (Ok reading) = append-nil reading.loads
+      expansion_loads (Err stop) = refl
 
     -- a source that breaks none
     ready_row : (r : Request) → request_of words ≡ Some r → IsReady h r → (status : Status) → Ended status → Comes Done status
@@ -175,7 +260,7 @@ module _ (words : List (List ℕ)) (old new : Outside) where
       by : (status ≡ given) ⊎ (status ≡ WriteFault) → (status ≡ Usage) ⊎ (status ≡ WriteFault) ⊎ (status ≡ Memory)
       by (inl is) = inl (is ∙ usage_sole given note text answers)
       by (inr is) = inr (inl is)
-    no_command_row status (file_fault loads fault ending writes) = let off : false ≡ true = subst IsSome none loads in cc
+    no_command_row status (file_fault loads fault ending writes) = absurd (subst (λ o. IsSomeAnd o (λ r. IsTrue (takes_files r))) none loads)
     no_command_row status (no_memory left leaves out notes) = inr (inr refl)
 
     no_command_loads : (h : Held) (status : Status) → old.files.held ≡ Some h → IsRun words old new status → new.files.asked ≡ old.files.asked
@@ -205,6 +290,50 @@ module _ (words : List (List ℕ)) (old new : Outside) where
   streams_rose_row (inl rose) status (no_memory left leaves out notes) = absurd (omega (arith, out.calm))
   streams_rose_row (inr rose) status (no_memory left leaves out notes) = let same : new.notes.faults ≡ old.notes.faults = ap (λ x. x.faults) notes in absurd (omega (arith, same))
 
+-- ---- the order of rules
+
+module _ (h : Held) (s : SourceWords) (other : Refusal) (name : List ℕ) where
+  -- what the expansion comes to stands first: a file that isn't held, or a rule that is broken there
+  miss_first_row : pre.IsMiss (expanded h s) → IsBroken h (compile s) other name → ⊥
+  miss_first_row miss broken = broken_missing h (compile s) other name broken (of_source s refl miss)
+
+  expansion_first_row : (refusal : Refusal) (file : List ℕ) → pre.IsRefused refusal file (expanded h s) → IsBroken h (compile s) other name → (other ≡ refusal) × (name ≡ file)
+  expansion_first_row refusal file broken is = one_broken h (compile s) other refusal name file is (in_expansion s refl refusal file broken)
+
+  module _ (text : Expanded) where
+    -- then a byte at which no token begins, whatever stands behind it
+    byte_first_row : (at : ℕ) → FailsAt text.bytes at → FirstBreak text s other → other ≡ no_token text at
+    byte_first_row at fails is = one_break text s other (no_token text at) is (at_byte at fails)
+
+    -- then tokens without a tree
+    token_next_row : (ts : List Token) → AreTokens text.bytes ts → ((tree : Tree) → IsTreeOf text ts tree → ⊥) → (stop : ℕ) → read_from text ts ≡ Err stop →
+        (refusal : Refusal) → IsNoTree text ts stop refusal → FirstBreak text s other → other ≡ refusal
+    token_next_row ts are none stop reads refusal names is = one_break text s other refusal is (at_token ts are none stop reads refusal names)
+
+    -- then a tree that is no source of the form; so a process without a wait is the last
+    form_next_row : (ts : List Token) (tree : Tree) → HasTree text ts tree → ((source : Source) → IsFormOf text s ts tree source → ⊥) → FirstBreak text s other → other ≡ not_of_form
+    form_next_row ts tree has none is = one_break text s other not_of_form is (out_of_form ts tree has none)
+
+-- ---- the numbers of the statuses
+
+done_number : number_of Done ≡ 0
+done_number = refl
+
+memory_number : number_of Memory ≡ 1
+memory_number = refl
+
+usage_number : number_of Usage ≡ 2
+usage_number = refl
+
+refused_number : number_of Refused ≡ 3
+refused_number = refl
+
+read_fault_number : number_of ReadFault ≡ 7
+read_fault_number = refl
+
+write_fault_number : number_of WriteFault ≡ 8
+write_fault_number = refl
+
 -- ---- what words ask for
 
 asked_row : request_of (codes "compile" ∷ codes "top.v" ∷ codes "top" ∷ codes "clk" ∷ []) ≡ Some (compile (source_words (codes "top.v") (codes "top") (codes "clk") []))
@@ -219,3 +348,34 @@ unknown_command_row h = no_command refl
 
 no_equals_row : (h : Held) → Answers (codes "compile" ∷ codes "top.v" ∷ codes "top" ∷ codes "clk" ∷ codes "WIDTH" ∷ []) (Some h) Usage (codes "usage\n") []
 no_equals_row h = no_command refl
+
+-- words with one macro, and with two
+with_defines : List (List ℕ) → List (List ℕ)
+with_defines defines = codes "compile" ∷ codes "top.v" ∷ codes "top" ∷ codes "clk" ∷ defines
+
+two_defines_row : request_of (with_defines (codes "A=1" ∷ codes "B=x=y" ∷ [])) ≡ Some (compile (source_words (codes "top.v") (codes "top") (codes "clk") ((codes "A", codes "1") ∷ (codes "B", codes "x=y") ∷ [])))
+unfolding directives.directive_of directives.directive_names with_defines
+two_defines_row = refl
+
+-- a reserved word is a macro's name, and a directive's isn't
+reserved_name_row : request_of (with_defines (codes "wire=1" ∷ [])) ≡ Some (compile (source_words (codes "top.v") (codes "top") (codes "clk") ((codes "wire", codes "1") ∷ [])))
+unfolding directives.directive_of directives.directive_names with_defines
+reserved_name_row = refl
+
+directive_name_row : request_of (with_defines (codes "define=1" ∷ [])) ≡ None
+unfolding directives.directive_of directives.directive_names with_defines
+directive_name_row = refl
+
+-- a comment in the text
+comment_row : request_of (with_defines (codes "A=1//2" ∷ [])) ≡ None
+unfolding directives.directive_of directives.directive_names with_defines
+comment_row = refl
+
+-- a text of 257 bytes, and one of 256
+long_text_row : request_of (with_defines ((codes "A=" ++ replicate 257 49) ∷ [])) ≡ None
+unfolding directives.directive_of directives.directive_names with_defines
+long_text_row = refl
+
+longest_text_row : request_of (with_defines ((codes "A=" ++ replicate 256 49) ∷ [])) ≡ Some (compile (source_words (codes "top.v") (codes "top") (codes "clk") ((codes "A", replicate 256 49) ∷ [])))
+unfolding directives.directive_of directives.directive_names with_defines
+longest_text_row = refl

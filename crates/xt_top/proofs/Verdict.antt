@@ -56,7 +56,7 @@ module _ (h : Held) where
   held_missing r are (of_source s is miss) = expanded_held (expanded h s) (of_source_words (source_of r) s (λ s. IsOk (expanded h s)) is are.source) miss
   held_missing r are (of_files source name there none) = let off : false ≡ true = subst IsSome none (All-contains (λ name. IsSome (bytes_of h name)) (files_of r) name are.files there) in cc
 
-  broken_missing : (r : Request) (refusal : Refusal) (file : List ℕ) → IsBroken h r refusal file → IsMissing h r → ⊥
+  pub broken_missing : (r : Request) (refusal : Refusal) (file : List ℕ) → IsBroken h r refusal file → IsMissing h r → ⊥
   broken_missing r refusal file (in_expansion s is broken_refusal name broken) (of_source t is' miss) =
       missed_unbroken (expanded h t) refusal file miss (subst (λ w. pre.IsRefused refusal file (expanded h w)) (some_one (sym is ∙ is')) broken)
   broken_missing r refusal file (in_expansion s is broken_refusal name broken) (of_files source missed there none) =

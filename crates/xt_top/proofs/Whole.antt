@@ -1,11 +1,11 @@
 -- Where no fault is counted the answer stands whole on the streams, or memory ran out.
 use Rattle.std.proofs.Common.{◌≡◌, ◌⊎◌, inl, inr, refl, arith, ℕ, List}
-use Rattle.std.specs.Prelude.{IsSome}
 use Rattle.xt_base.specs.Outside.{HasFault, HasNoFault}
 use Rattle.xt_top.specs.declared.status.Status.{Status}
 use Rattle.xt_top.specs.declared.status.Status.TheVariants.{Memory}
 use Rattle.xt_top.specs.Answer.{Answers, MayLeave}
 use Rattle.xt_top.specs.Command.{request_of}
+use Rattle.xt_top.specs.Loads.{LoadsFiles}
 use Rattle.xt_top.specs.Ends.{Outside, Writes, whole, text_cut, note_cut, Ends, answered, file_fault, no_memory, IsRun, IsWhole, NoFault}
 
 never_both : (old new : ℕ) → HasNoFault old new → HasFault old new → ⊥
@@ -21,7 +21,7 @@ module _ (words : List (List ℕ)) (old new : Outside) (calm : NoFault old new) 
   written due status note text answers (text_cut some failed same) = absurd (never_both old.out.faults new.out.faults calm.out failed.fault)
   written due status note text answers (note_cut some failed same) = absurd (never_both old.notes.faults new.notes.faults calm.notes failed.fault)
 
-  ended : (status : Status) → Ends (Answers words old.files.held) (IsSome (request_of words)) (MayLeave (request_of words)) old new status → Whole status
+  ended : (status : Status) → Ends (Answers words old.files.held) (LoadsFiles (request_of words)) (MayLeave (request_of words)) old new status → Whole status
   ended status (answered due note text answers same ending writes) = written due status note text answers writes
   ended status (file_fault loads fault ending writes) = absurd (never_both old.files.faults new.files.faults calm.files fault)
   ended status (no_memory left leaves out notes) = inl refl

@@ -1,12 +1,12 @@
 -- How a call ends that answers: what its files and its two streams are afterwards. All of it is this project's own.
-use Rattle.std.specs.Prelude.{◌≡◌, ◌≢◌, ◌≤◌, ℕ, List, [], Option, Some, IsSome, codes}
+use Rattle.std.specs.Prelude.{◌≡◌, ◌≢◌, ◌≤◌, ℕ, List, [], Option, Some, codes}
 use Rattle.xt_base.specs.Outside.{Held, appended, AppendsPrefix, HasFault, HasNoFault}
 use Rattle.vl_pre.specs.Faults.{AskedInOrder}
 use Rattle.xt_top.specs.declared.status.Status.{Status}
 use Rattle.xt_top.specs.declared.status.Status.TheVariants.{Memory, ReadFault, WriteFault}
 use Rattle.xt_top.specs.Answer.{Answers, MayLeave}
 use Rattle.xt_top.specs.Command.{request_of}
-use Rattle.xt_top.specs.Loads.{loads_of}
+use Rattle.xt_top.specs.Loads.{LoadsFiles, loads_of}
 
 -- ---- the outside
 
@@ -56,8 +56,8 @@ pub data Writes (due : Status) (note text : List ℕ) (out out' notes notes' : S
 
 -- ---- the end
 
--- A call ends with its answer written, while no fault of the files was counted; or, where it loads files, with a fault of these and the note of one; or without memory, with
--- what it may leave.
+-- A call ends with its answer written, while the count of the files' faults stays; or, where it loads files, with a fault of these and the note of one; or without memory,
+-- with what it may leave. A count at its last value stays there after a fault too, so that then both of the first two may come.
 pub data Ends (Answer : Status → List ℕ → List ℕ → Type 0) (Loads : Type 0) (Leaves : List ℕ → Type 0) (old new : Outside) : Status → Type 0 where
   answered : (due : Status) (note text : List ℕ) → Answer due note text → new.files.faults ≡ old.files.faults → (status : Status) → Writes due note text old.out new.out old.notes new.notes status → Ends Answer Loads Leaves old new status
   file_fault : Loads → HasFault old.files.faults new.files.faults → (status : Status) → Writes ReadFault (codes "read fault\n") [] old.out new.out old.notes new.notes status → Ends Answer Loads Leaves old new status
@@ -90,6 +90,6 @@ pub record IsWhole (words : List (List ℕ)) (old new : Outside) (status : Statu
 
 -- THE CONTRACT. A run for words ends with their answer, loads what they load, and lowers no count.
 pub record IsRun (words : List (List ℕ)) (old new : Outside) (status : Status) : Type 0 where
-  pub ends : Ends (Answers words old.files.held) (IsSome (request_of words)) (MayLeave (request_of words)) old new status
+  pub ends : Ends (Answers words old.files.held) (LoadsFiles (request_of words)) (MayLeave (request_of words)) old new status
   pub loads : LoadsInOrder (loads_of (request_of words)) old.files new.files
   pub counts : NeverFall old new

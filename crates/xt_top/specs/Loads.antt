@@ -1,10 +1,18 @@
 -- The files that words load, in their order: first those of the source's expansion, then, where it has a text, the further files of the command. This project's own.
-use Rattle.std.specs.Prelude.{◌≡◌, List, [], ◌∷◌, ◌++◌, Option, Some, None, Result, Ok, Err, IsOk, IsSome, IfSome, is_some, All, Contains, if◌then◌else◌, ℕ}
+use Rattle.std.specs.Prelude.{◌≡◌, ◌||◌, Bool, List, [], ◌∷◌, ◌++◌, length, nat_lt, Option, Some, None, Result, Ok, Err, IsOk, IsSome, IsSomeAnd, IfSome, IsTrue, is_some, All, Contains, if◌then◌else◌, ℕ}
 use Rattle.xt_base.specs.Outside.{Held, bytes_of}
 use Rattle.vl_pre.specs.Files.{Reading, Stop}
 use Rattle.vl_pre.specs.Faults as pre
 use Rattle.xt_top.specs.Command.{Request, SourceWords, source_of, files_of}
 use Rattle.xt_top.specs.Sources.{expanded}
+
+-- a command takes files: a source, or further files
+abbrev pub takes_files : Request → Bool
+takes_files r = is_some (source_of r) || nat_lt 0 (length (files_of r))
+
+-- what is asked for loads files
+abbrev pub LoadsFiles : Option Request → Type 0
+LoadsFiles asked = IsSomeAnd asked (λ r. IsTrue (takes_files r))
 
 -- all that a command takes is held: its source has an expanded text, and its further files are there
 pub record AreHeld (h : Held) (r : Request) : Type 0 where

@@ -1,5 +1,5 @@
 -- The theorem of the compiler, for a source of the form.
-use Rattle.std.proofs.Common.{◌≡◌, ◌≤◌, ℕ, true, List, [], ◌∷◌, None, length, map, refl, sym, ap, ◌∙◌, subst, arith}
+use Rattle.std.proofs.Common.{◌≡◌, ◌≤◌, true, List, [], ◌∷◌, None, length, map, refl, sym, ap, ◌∙◌, subst, arith}
 use Rattle.std.specs.List.{list_any}
 use Rattle.xt_bits.specs.Trace.{Trace}
 use Rattle.nt_core.specs.Conditions.{IsNetlist}

@@ -1,5 +1,5 @@
 -- What the parts of a run give each other: the refusal of a text, what is to be written, and what of it was. No public contract cites these. This project's own.
-use Rattle.std.specs.Prelude.{◌≡◌, ◌⊎◌, ◌<◌, ℕ, List, [], Option, IsSome, Result, Ok, Err, length, string_bytes}
+use Rattle.std.specs.Prelude.{◌≡◌, ◌⊎◌, ◌<◌, ℕ, List, [], Option, Result, Ok, Err, length, string_bytes}
 use Rattle.xt_base.specs.Outside.{Held, HasFault}
 use Rattle.xt_base.specs.declared.refusals.Fail.{Fail}
 use Rattle.xt_base.specs.declared.refusals.Refusal.{Refusal}
@@ -20,6 +20,7 @@ use Rattle.xt_top.specs.Answer.{Answers}
 use Rattle.xt_top.specs.Breaks.{FirstBreak}
 use Rattle.xt_top.specs.Command.{SourceWords, request_of}
 use Rattle.xt_top.specs.Ends.{Stream, Took, Failed, Writes}
+use Rattle.xt_top.specs.Loads.{LoadsFiles}
 use Rattle.xt_top.specs.Note.{line_of, status_of}
 
 -- ---- the work
@@ -51,7 +52,7 @@ text_in (Design netlist) = text_of netlist
 
 -- a note is the answer to words, and no fault of the files was counted; or it tells of such a fault, where files were loaded; or memory ran out
 abbrev pub Stops : List (List ℕ) → Option Held → ℕ → ℕ → Stop → Type 0
-Stops words held faults faults' (stops.Note note) = (Answers words held (status_of note) (line_of note) [] × (faults' ≡ faults)) ⊎ (IsSome (request_of words) × (note ≡ notes.ReadFault) × HasFault faults faults')
+Stops words held faults faults' (stops.Note note) = (Answers words held (status_of note) (line_of note) [] × (faults' ≡ faults)) ⊎ (LoadsFiles (request_of words) × (note ≡ notes.ReadFault) × HasFault faults faults')
 Stops words held faults faults' stops.Memory = Unit {0}
 
 -- what is to be written is the answer to words, and no fault of the files was counted; or why there is none
