@@ -4,8 +4,9 @@ use Rattle.xt_bits.specs.Word as words
 use Rattle.xt_bits.specs.Operators as operators
 use Rattle.el_witness.specs.Bench.{bench, IsMade, AreRight, IsStored, AreStored, AreCopied}
 use Rattle.el_witness.specs.Operators as row
-use Rattle.el_witness.specs.Targets.{targets, copied}
-use Rattle.el_witness.proofs.SoundTests.{answered, each, expression, target}
+use Rattle.el_design.specs.Sound.{IsStatement}
+use Rattle.el_witness.specs.Targets.{targets, copied, wide_loop}
+use Rattle.el_witness.proofs.SoundTests.{answered, each, expression, target, statement}
 
 pub mentioned : AreRight row.mentioned
 unfolding words.number_of words.bit_of operators.selected_bit operators.turned_bit operators.extended_bit operators.shifted_bit operators.replaced_bit
@@ -50,3 +51,6 @@ stored = (answered (each IsStored (λ r. target bench r.0) targets) refl, refl)
 pub copied_out : AreCopied copied
 unfolding words.number_of words.bit_of operators.selected_bit operators.turned_bit operators.extended_bit operators.shifted_bit operators.replaced_bit
 copied_out = refl
+
+pub wide_loop_is_sound : IsStatement bench wide_loop
+wide_loop_is_sound = answered (statement bench wide_loop) refl

@@ -1,8 +1,10 @@
 -- Each form of target once (IEEE 1364-2005, 9.2 and 5.2; what lies outside isn't stored, which is this project's own).
 use Rattle.std.specs.Prelude.{ℕ, true, false, List, [], ◌∷◌}
 use Rattle.xt_bits.specs.Word.{word}
-use Rattle.el_design.specs.Plain.{Number, Variable, Bit, Part, Up, Down, Lvalue, ToVariable, ToPart, ToWord, ToWordPart, Both, Nowhere}
+use Rattle.el_design.specs.declared.expressions.BinOp.TheVariants as op
+use Rattle.el_design.specs.Plain.{Number, Variable, Binary, Resize, Bit, Part, Up, Down, Lvalue, ToVariable, ToPart, ToWord, ToWordPart, Both, Nowhere, Statement, Null, For}
 use Rattle.el_design.specs.Store.{Store}
+use Rattle.el_design.specs.Witnesses.{at}
 use Rattle.el_witness.specs.Bench.{Stores, Copies, a_var, h_var, m_var, b_var, u, s, un, sn, minus, holding}
 
 -- what `a`, `h`, `m` and `b` hold before
@@ -79,3 +81,8 @@ copied =
     -- to {a, b}: 4'b1100 as a signed formal
     ∷ record { to = two_parts (ToVariable a_var) (ToVariable b_var); formal = word 4 0xc; signed = true; held = holding 0xff before_h before_m 0xfc }
     ∷ []
+
+-- ---- what is stored may be wider than the loop's variable: for (a = 16'd0; a < 8'd4; a = a + 16'd1) ;
+
+abbrev pub wide_loop : Statement
+wide_loop = For (at 9) a_var (un 16 0) (Binary (u 1) op.Lt (Variable (u 8) a_var) (un 8 4)) (Binary (u 16) op.Add (Resize (u 16) (Variable (u 8) a_var)) (un 16 1)) Null

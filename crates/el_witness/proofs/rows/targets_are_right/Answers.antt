@@ -6,3 +6,6 @@ returns-clause-stored c = row.stored
 
 pub returns-clause-copied : goal.returns-clause-copied
 returns-clause-copied c = row.copied_out
+
+pub returns-clause-wide_loop : goal.returns-clause-wide_loop
+returns-clause-wide_loop c = row.wide_loop_is_sound
