@@ -1,4 +1,5 @@
--- Refused designs and their neighbours for the rules on loops and sizes, as `RuleRows` has them. All of it is this project's own.
+-- Refused designs and their neighbours for the rules on loops and sizes, as `RuleRows` has them. To keep them short, the functions of two of them have no inputs, as those
+-- of no source do. All of it is this project's own.
 use Rattle.std.specs.Prelude.{ℕ, zero, suc, List, [], ◌∷◌, replicate}
 use Rattle.el_design.specs.declared.expressions.BinOp.TheVariants as op
 use Rattle.el_design.specs.Plain.{Expr, NetValue, Variable, Binary, Call, NoExpr, Statement, Null, For, While, If, FlatNet, FlatTask, FlatFunc, Flat}
