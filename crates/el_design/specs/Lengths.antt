@@ -156,7 +156,7 @@ to_exit Past (Away n) = None
 to_exit (Away m) Past = None
 to_exit (Away m) (Away n) = if m == n then Some 0 else None
 
--- no walk from a statement's start out of it by this exit, without a clock wait, has more steps; None where there is no such walk
+-- where no loop spins, no walk from a statement's start out of it by this exit, without a clock wait, has more steps; None where there is no such walk
 abbrev pub way_out : Flat → (Statement → Told) → List ℕ → Statement → Exit → Option ℕ
 way_out d told marks s e = lengths_in_place d told None marks s (to_exit e)
 
@@ -196,8 +196,8 @@ abbrev pub steps_of : {d : Flat} {marks : List ℕ} {k end : List Work} → Walk
 steps_of walk.stays = 0
 steps_of (walk.then step rest) = suc (steps_of rest)
 
--- Each step of a walk lowers the number that the stack has by its structure, where it leads to what is meant. The stack need not have been come to from the
--- statement's start: it is enough that each piece of work on it stands in the statement, as on a stack that goes on behind a clock wait.
+-- Each step of a walk lowers the number that the walk's stack has by its structure, where the next stack has one. The stack need not have been come to from the
+-- statement's start: it is enough that each piece of work on it stands in the statement, as behind a clock wait.
 abbrev pub StepsGoDown : Flat → (Statement → Told) → List ℕ → Statement → Type 0
 StepsGoDown d told marks s =
     (waits : Option ℕ) (ahead : Ahead) (k next : List Work) (n : ℕ) → ArePlaced d marks s k → Steps d marks k next →

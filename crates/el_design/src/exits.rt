@@ -33,8 +33,9 @@ pub fn lengths_bound_walks()
     ensures exits { (d : Flat) → (told : Statement → Told) → (marks : List ℕ) → (s : Statement) → LengthsAreOfExits d told marks s }
 {}
 
-/// Where no rule of a pass before the one on sizes is broken, no loop of a process spins; so in a sound design the walks of each process,
-/// from its start and from each stack on which it may go on behind a clock wait, are bounded by its lengths.
+/// Where no rule of a pass before the one on sizes is broken, no loop of a process spins; so in a sound design the walks from the start of
+/// each process are bounded by its lengths, and each step of a walk, also behind a clock wait, lowers the number that the walk's stack has,
+/// where the next stack has one.
 pub fn loops_wait()
     ensures spins { (d : Flat) → IsCleanBefore d 13 → (p : ℕ) → (process : FlatProc) → slice_get d.procs p ≡ Some process → NoneSpins d [] (whole_of process) }
     ensures bound { (d : Flat) → IsSound d → IsCleanBefore d 13 → (p : ℕ) → (process : FlatProc) → slice_get d.procs p ≡ Some process → LengthsBoundWalks d (told_of d) [] (whole_of process) }

@@ -103,9 +103,9 @@ calls_inside = record (with_function (assign 6 1 (read 2) ∷ Host (at 7) 0 [] N
 abbrev pub names_net : Flat
 names_net = record (with_function (assign 6 1 (read 2) ∷ assign 7 1 (NetValue (u 8) 0) ∷ [])) { nets = input 2 8 ∷ [] }
 
--- 6 f = y; 7 f = h();, where h is an import, whose number is 1
+-- 6 f = y; 7 f = h() + 8'd1;, where h is an import, whose number is 1
 abbrev pub names_import : Flat
-names_import = record (with_function (assign 6 1 (read 2) ∷ assign 7 1 (Call (u 8) 1 NoExpr) ∷ [])) { imports = giving ∷ [] }
+names_import = record (with_function (assign 6 1 (read 2) ∷ assign 7 1 (plus (Call (u 8) 1 NoExpr) (byte 1)) ∷ [])) { imports = giving ∷ [] }
 
 -- reg [7:0] v; 6 v = y; 7 f = v;, of the module   against   of the function
 abbrev pub with_variable : List ℕ → Flat

@@ -236,7 +236,7 @@ module _ (words : List (List ℕ)) (old new : Outside) where
           let one = one_answer words h status due is.note note is.text text (subst (λ o. Answers words o status is.note is.text) told is.answers) answers in
           inr (one.0, is, subst (Took old.notes new.notes) one.1 is.notes)
 
-    -- what was asked for: the first of the loads of the source's expansion, in order; a name that isn't held is the last of these
+    -- what was asked for: the first of the loads of the source's expansion, in order
     loads_row : (s : SourceWords) → request_of words ≡ Some (compile s) → (status : Status) → IsRun words old new status → AskedInOrder old.files.asked new.files.asked (pre.loads_of (expanded h s))
     loads_row s asked status run = subst (AskedInOrder old.files.asked new.files.asked) (expansion_loads (expanded h s)) (subst (λ o. AskedInOrder old.files.asked new.files.asked (loads_of o h)) asked (run.loads.asked h told)) where
       expansion_loads : (read : Result Reading Stop) → loads_after h [] read ≡ pre.loads_of read
