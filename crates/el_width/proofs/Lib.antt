@@ -1,0 +1,7 @@
+mod Rows
+mod Cut
+mod Joined
+mod Opens
+mod Layers
+mod Sized
+mod Constants

@@ -1,0 +1,10 @@
+pub mod Environment
+pub mod Lengths
+pub mod Numbers
+pub mod Operators
+pub mod Operands
+pub mod Typed
+pub mod Breaks
+pub mod Values
+pub mod Expressions
+pub mod inner
