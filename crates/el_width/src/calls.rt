@@ -44,11 +44,13 @@ fn in_context(
     Ok((made, signed))
 }
 
-/// The value of an expression that must be constant. What is broken in it, by rules 32, 40, 41 and 42, is reported; where something is, the value means nothing.
-/// None where it has no value: a parameter in it has none, a length is out of range, or a divisor is 0.
+/// The value of an expression that must be constant. What is broken in it, by rules 32, 40, 41 and 42, is reported;
+/// where something is, the value means nothing. None where it has no value: a parameter in it has none, a length is
+/// out of range, or a divisor is 0.
 ///
-/// Without a context it stands by itself. In the context of a width in bits and a sign it has the larger of the width and its own length, and
-/// is signed exactly where it is signed by itself and the context's sign is true (IEEE 1364-2005, 5.4.1 and 5.5.2).
+/// Without a context it stands by itself. In the context of a width in bits and a sign it has the larger of the width
+/// and its own length, and is signed exactly where it is signed by itself and the context's sign is true
+/// (IEEE 1364-2005, 5.4.1 and 5.5.2).
 pub fn constant(
     alloc: Global,
     env: &Env<'_>,
@@ -66,7 +68,8 @@ pub fn constant(
     }
 }
 
-/// The typed form of an expression. What is broken in it, by rules 32, 40, 41 and 42, is reported; where something is, the form means nothing.
+/// The typed form of an expression. What is broken in it, by rules 32, 40, 41 and 42, is reported; where something is,
+/// the form means nothing.
 ///
 /// The context is that of `constant`.
 pub fn type_expr(
