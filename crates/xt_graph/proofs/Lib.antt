@@ -1,0 +1,10 @@
+pub mod Lists
+pub mod Turns
+pub mod Circle
+pub mod DepthFirst
+pub mod Compressed
+pub mod Reversed
+pub mod Orders
+pub mod Spreads
+pub mod RootLabels
+pub mod Rows

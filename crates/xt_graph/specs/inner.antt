@@ -1,0 +1,5 @@
+pub mod Reversing
+pub mod Searching
+pub mod Finishing
+pub mod Ordering
+pub mod Labelling
