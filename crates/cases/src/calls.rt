@@ -8,7 +8,7 @@ use crate::operators::operator;
 use crate::programs::ended;
 use case_file::{Case, Stop, expanded, tokens};
 use case_front::{expression, tree};
-use case_middle::names;
+use case_middle::{form, names, value as constant};
 use std::alloc::Global;
 
 /// What a call gives for a case.
@@ -22,6 +22,8 @@ pub fn answer(alloc: Global, call: &str, case: &Case) -> Result<String, Stop> {
         "expressions" => expression(alloc, case),
         "parse" => tree(alloc, case),
         "scopes" => names(alloc, case),
+        "constants" => constant(alloc, case),
+        "forms" => form(alloc, case),
         "designs" => rewritten(alloc, case),
         "prefixes" => prefixes(alloc, case),
         "evaluate" => computed(alloc, case),
