@@ -1,0 +1,10 @@
+pub mod Nodes
+pub mod Weights
+pub mod Lines
+pub mod Texts
+pub mod Assigned
+pub mod Breaks
+pub mod Routines
+pub mod Placed
+pub mod Measures
+pub mod Listed
