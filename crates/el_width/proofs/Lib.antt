@@ -5,3 +5,9 @@ mod Opens
 mod Layers
 mod Sized
 mod Constants
+mod Nodes
+mod Forms
+mod FormParts
+mod FormNames
+mod FormLaw
+mod FormLayers

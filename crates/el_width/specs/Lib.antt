@@ -7,4 +7,5 @@ pub mod Typed
 pub mod Breaks
 pub mod Values
 pub mod Expressions
+pub mod Uses
 pub mod inner

@@ -1,0 +1,6 @@
+use Rattle.std.specs.Prelude.{false}
+use Rattle.el_width.proofs.laws.forms_are_well_made.Goals as goal
+use Rattle.el_width.proofs.FormLayers as law
+
+pub returns : goal.returns
+returns c = λ d env context e l names h. (law.context_form d env context l e names false h).made
